@@ -5,7 +5,8 @@ use Prim.Native.Nat.{ℕ}
 use lib.Dec.{eqb}
 use Rattle.std.specs.declared.option.Option.{Option}
 use Rattle.std.specs.declared.option.Option.the-variants.{Some, None}
-use Rattle.lir.specs.Limits.{cell-at, exit-at}
+use Rattle.codes.specs.Bounds.{cell-at}
+use Rattle.lir.specs.Limits.{exit-at}
 use Rattle.lir.specs.Instructions.{Instruction, value, store, guard}
 use Rattle.lir.specs.declared.call.Fields.{Fields}
 use Rattle.lir.specs.declared.instruction.Op.the-variants.{Add, Sub, Mul, And, Or, Xor, Eq, Lt}

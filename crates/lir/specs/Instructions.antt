@@ -5,13 +5,13 @@ use Prim.Native.Nat.{ℕ, _+_}
 use lib.ListN.{getD}
 use lib.Dec.{ltb}
 use lib.Bits.{bitAnd, bitOr, bitXor}
-use Rattle.lir.specs.Kinds.{Arithmetic}
-use Rattle.lir.specs.Codes.{code, nought, same}
-use Rattle.lir.specs.Contents.{code-in, written}
-use Rattle.lir.specs.Limits.{low-cell}
-use Rattle.lir.specs.declared.bounds.Code.{Code}
+use Rattle.codes.specs.Kinds.{Arithmetic}
+use Rattle.codes.specs.Codes.{code, nought, same}
+use Rattle.codes.specs.Contents.{code-in, written}
+use Rattle.codes.specs.Bounds.{low-cell}
+use Rattle.codes.specs.declared.bounds.Code.{Code}
 use Rattle.lir.specs.declared.bounds.Exit.{Exit}
-use Rattle.lir.specs.declared.cells.Cells.{Cells}
+use Rattle.codes.specs.declared.cells.Cells.{Cells}
 use Rattle.lir.specs.declared.instruction.Op.{Op}
 use Rattle.lir.specs.declared.instruction.Op.the-variants.{Add, Sub, Mul, And, Or, Xor, Eq, Lt}
 use Rattle.lir.specs.declared.instruction.Value.{Value}

@@ -1,9 +1,4 @@
-pub mod Codes
 pub mod Limits
-pub mod Contents
-pub mod Kinds
-pub mod Counts
-pub mod Pressures
 pub mod Refusals
 pub mod Instructions
 pub mod Calls

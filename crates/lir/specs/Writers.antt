@@ -9,12 +9,12 @@ use Rattle.std.specs.declared.result.Result.{Result}
 use Rattle.std.specs.declared.result.Result.the-variants.{Ok, Err}
 use Rattle.std.specs.declared.option.Option.{Option}
 use Rattle.std.specs.declared.option.Option.the-variants.{Some, None}
-use Rattle.lir.specs.Kinds.{Arithmetic}
+use Rattle.codes.specs.Kinds.{Arithmetic}
 use Rattle.lir.specs.Refusals.{failing}
 use Rattle.lir.specs.Instructions.{Instruction, value, store, guard, Standing, going, gone, ended, value-of, value-at, effect, finished, defined}
-use Rattle.lir.specs.declared.bounds.Code.{Code}
+use Rattle.codes.specs.declared.bounds.Code.{Code}
 use Rattle.lir.specs.declared.bounds.Handle.{Handle}
-use Rattle.lir.specs.declared.cells.Cells.{Cells}
+use Rattle.codes.specs.declared.cells.Cells.{Cells}
 use Rattle.lir.specs.declared.fault.Fault.{Fault}
 use Rattle.lir.specs.declared.fault.Refusal.{Refusal}
 use Rattle.lir.specs.declared.fault.Refusal.the-variants.{Malformed, Undefined, Ended, NoSpace}

@@ -1,7 +1,8 @@
 // Calls by numbers: what a caller may hand in, and the instruction that it means.
 ghost use mathlib.Core.Path.{_≡_};
 ghost use Rattle.lir.specs.Calls.{lives-of, guard-by, meaning, value-call, store-call, guard-call};
-use crate::bounds::{Cell, Code, Exit};
+use crate::bounds::Exit;
+use codes::bounds::{Cell, Code};
 use crate::instruction::{Guard, Instruction, Lives, Op, Store, Test, Value};
 
 // The numbers of a call but for its lives. A field that the op does not use is ignored, whatever it holds.

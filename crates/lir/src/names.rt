@@ -1,11 +1,13 @@
-// What an operand is named by: a handle, in calls on a writer, or a value number, in calls on a recording.
+// Names of values (a handle, in calls on a writer; a value number, in calls on a recording), of exits and of places.
 ghost use mathlib.Core.Path.{_≡_};
 ghost use Prim.Native.Nat.{ℕ};
-ghost use Rattle.lir.specs.Limits.{handle-at, handle-of};
-use crate::bounds::Handle;
+ghost use Rattle.lir.specs.Limits.{handle-at, handle-of, exit-at, place-at};
+use crate::bounds::{Exit, Handle, Place};
 
-// How many handles there are.
+// How many there are of each.
 pub const HANDLES: u16 = 1024;
+pub const EXITS: u16 = 256;
+pub const STEPS: u16 = 4096;
 
 // The number of a value in the order in which a recording accepted it. Any number may be asked for;
 // one that no value has yet is refused where it is used.
@@ -51,5 +53,21 @@ impl Handle {
         ensures { λ r. ⌜ r ≡ handle-of n ⌝ }
     {
         Handle { index: n % HANDLES }
+    }
+}
+
+impl Exit {
+    pub fn new(label: u16) -> Option<Exit>
+        ensures { λ r. ⌜ r ≡ exit-at label ⌝ }
+    {
+        if label < EXITS { Some(Exit { label }) } else { None }
+    }
+}
+
+impl Place {
+    pub fn new(step: u16) -> Option<Place>
+        ensures { λ r. ⌜ r ≡ place-at step ⌝ }
+    {
+        if step < STEPS { Some(Place { step }) } else { None }
     }
 }

@@ -8,7 +8,7 @@ use crate::call::{Fields, read_guard, read_store, read_value};
 use crate::defined::defined;
 use crate::fault::{Fault, Refusal};
 use crate::instruction::{Guard, Instruction, Store, Value};
-use crate::kind::Kind;
+use codes::kind::Kind;
 use crate::names::HandleName;
 
 // `PART` is the number by which faults name the writer; generic code learns nothing of a constant, so

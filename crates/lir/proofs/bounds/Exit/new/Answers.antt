@@ -1,5 +1,5 @@
 use mathlib.Core.Path.{sym}
-use Rattle.lir.proofs.Within.{within-made}
+use Rattle.codes.proofs.Within.{within-made}
 use Rattle.lir.proofs.bounds.Exit.new.Needs as need
 
 pub returns-then-label-lt-EXITS : need.returns-then-label-lt-EXITS

@@ -1,5 +1,5 @@
 use mathlib.Core.Path.{sym}
-use Rattle.lir.proofs.Within.{within-made}
+use Rattle.codes.proofs.Within.{within-made}
 use Rattle.lir.proofs.bounds.Handle.new.Needs as need
 
 pub returns-then-index-lt-HANDLES : need.returns-then-index-lt-HANDLES

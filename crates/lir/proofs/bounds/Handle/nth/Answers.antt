@@ -1,5 +1,5 @@
 use native.Mathlib.Omega.{arith}
-use Rattle.lir.proofs.Alike.{same-handle}
+use Rattle.lir.proofs.Handles.{same-handle}
 use Rattle.lir.proofs.bounds.Handle.nth.Needs as need
 
 pub returns : need.returns

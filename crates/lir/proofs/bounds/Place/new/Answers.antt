@@ -1,5 +1,5 @@
 use mathlib.Core.Path.{sym}
-use Rattle.lir.proofs.Within.{within-made}
+use Rattle.codes.proofs.Within.{within-made}
 use Rattle.lir.proofs.bounds.Place.new.Needs as need
 
 pub returns-then-step-lt-STEPS : need.returns-then-step-lt-STEPS

@@ -1,0 +1,4 @@
+pub mod Alike
+pub mod Within
+pub mod CountLaws
+pub mod PressureLaws

@@ -1,0 +1,27 @@
+// Reading and changing cells.
+ghost use mathlib.Core.Path.{_≡_};
+ghost use Rattle.codes.specs.Contents.{blank, code-in, written};
+use super::Cells;
+use crate::bounds::{Cell, Code};
+
+impl Cells {
+    // All cells at 0.
+    pub fn new() -> Cells
+        ensures { λ r. ⌜ r ≡ blank ⌝ }
+    {
+        let zero = Code::new(0);
+        Cells { codes: [zero; 64] }
+    }
+
+    pub fn get(&self, cell: Cell) -> Code
+        ensures { λ r. ⌜ r ≡ code-in (now (self .entry)) cell ⌝ }
+    {
+        self.codes[cell.index as usize]
+    }
+
+    pub fn set(&mut self, cell: Cell, code: Code)
+        ensures { λ _. ⌜ now (self .exit) ≡ written (now (self .entry)) cell code ⌝ }
+    {
+        self.codes[cell.index as usize] = code;
+    }
+}
