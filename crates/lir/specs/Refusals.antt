@@ -24,3 +24,8 @@ number-of WrongSlip = 11
 abbrev pub failing : List (Refusal × Bool) → Option Refusal
 failing [] = None
 failing (c ∷ cs) = cond (c .1) (failing cs) (Some (c .0))
+
+-- the verdict of checks that are made in two turns
+abbrev pub first : Option Refusal → Option Refusal → Option Refusal
+first None v = v
+first (Some r) v = Some r

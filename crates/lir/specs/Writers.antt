@@ -10,7 +10,8 @@ use Rattle.std.specs.declared.result.Result.the-variants.{Ok, Err}
 use Rattle.std.specs.declared.option.Option.{Option}
 use Rattle.std.specs.declared.option.Option.the-variants.{Some, None}
 use Rattle.codes.specs.Kinds.{Arithmetic}
-use Rattle.lir.specs.Refusals.{failing}
+use lib.Dec.{ltb}
+use Rattle.lir.specs.Refusals.{failing, first}
 use Rattle.lir.specs.Instructions.{Instruction, value, store, guard, Standing, going, gone, ended, value-of, value-at, effect, finished, defined}
 use Rattle.codes.specs.declared.bounds.Code.{Code}
 use Rattle.lir.specs.declared.bounds.Handle.{Handle}
@@ -64,6 +65,11 @@ Coherent m = (s : Cells) → Going (λ vs cs. length vs ≡ m .handles) (m .stan
 abbrev pub refusal : Meaning → Order → Option Refusal
 refusal m (instruct i) = failing ((Ended, not (m .over)) ∷ (Undefined, defined index-of (m .handles) i) ∷ [])
 refusal m end = failing ((Ended, not (m .over)) ∷ [])
+
+-- a writer at the foot goes on to check that it has space
+abbrev pub foot-refusal : Meaning → Order → Option Refusal
+foot-refusal m (instruct i) = first (refusal m (instruct i)) (failing ((NoSpace, ltb 0 (m .space)) ∷ []))
+foot-refusal m end = refusal m end
 
 -- a refusal as the fault of a part that has taken so many
 abbrev pub fault-of : ℕ → Meaning → Refusal → Fault
@@ -189,18 +195,15 @@ module _ {W : Type 0} (ws : Writes W) where
   abbrev pub own-fault : W → Refusal → Fault
   own-fault w r = fault-of (ws .part) (ws .meaning w) r
 
-  -- the checks that every writer makes first: passed, or refused with its own fault
-  abbrev pub admitted-by : W → Option Refusal → Result (Unit {0}) Fault
-  admitted-by w None = Ok tt
-  admitted-by w (Some r) = Err (own-fault w r)
+  -- a verdict as a result: passed, or refused with the writer's own fault
+  abbrev pub judgement : W → Option Refusal → Result (Unit {0}) Fault
+  judgement w None = Ok tt
+  judgement w (Some r) = Err (own-fault w r)
 
-  abbrev pub admission : W → Order → Result (Unit {0}) Fault
-  admission w o = admitted-by w (refusal (ws .meaning w) o)
-
-  -- the same, by what each answer tells
-  abbrev pub Admitted : W → Order → Result (Unit {0}) Fault → Type 0
-  Admitted w o (Ok u) = refusal (ws .meaning w) o ≡ None
-  Admitted w o (Err f) = (refusal (ws .meaning w) o ≡ Some (f .refusal)) × (f ≡ own-fault w (f .refusal))
+  -- the same, by what each result tells of the verdict
+  abbrev pub Judged : W → Option Refusal → Result (Unit {0}) Fault → Type 0
+  Judged w v (Ok u) = v ≡ None
+  Judged w v (Err f) = (v ≡ Some (f .refusal)) × (f ≡ own-fault w (f .refusal))
 
   -- a call by numbers does what the instruction does that they mean; numbers that mean none are refused, after the check for the end
   abbrev pub malformed : W → Fault

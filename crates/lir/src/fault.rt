@@ -47,3 +47,7 @@ pub struct Fault {
     pub part: u8,
     pub place: u64,
 }
+
+// The parts of the library, by the numbers that faults name them with.
+pub const BUFFER_PART: u8 = 2;
+pub const EVALUATOR_PART: u8 = 3;

@@ -2,7 +2,7 @@
 ghost use mathlib.Core.Path.{_≡_};
 ghost use Rattle.lir.specs.Instructions.{value, store, guard};
 ghost use Rattle.lir.specs.Calls.{meant, value-call, store-call, guard-call};
-ghost use Rattle.lir.specs.Writers.{Writes, Lawful, instruct, end, handled, settled, own-fault, admission, Admitted, malformed, By-numbers};
+ghost use Rattle.lir.specs.Writers.{Writes, Lawful, instruct, end, handled, settled, refusal, foot-refusal, own-fault, judgement, Judged, malformed, By-numbers};
 use crate::bounds::Handle;
 use crate::call::{Fields, read_guard, read_store, read_value};
 use crate::defined::defined;
@@ -63,8 +63,8 @@ pub trait Writer {
 
     // The checks that every writer makes first.
     fn admit(&self, i: &Instruction<Handle>) -> Result<(), Fault>
-        ensures exact { λ r. ⌜ r ≡ admission writes (now (self .entry)) (instruct (now (i .entry))) ⌝ }
-        ensures cases { λ r. ⌜ Admitted writes (now (self .entry)) (instruct (now (i .entry))) r ⌝ }
+        ensures exact { λ r. ⌜ r ≡ judgement writes (now (self .entry)) (refusal (writes .meaning (now (self .entry))) (instruct (now (i .entry)))) ⌝ }
+        ensures cases { λ r. ⌜ Judged writes (now (self .entry)) (refusal (writes .meaning (now (self .entry))) (instruct (now (i .entry)))) r ⌝ }
     {
         if self.has_ended() {
             return Err(self.fault(Refusal::Ended));
@@ -75,9 +75,21 @@ pub trait Writer {
         Ok(())
     }
 
+    // The checks of a writer at the foot, which has no other to ask for space.
+    fn admit_at_foot(&self, i: &Instruction<Handle>) -> Result<(), Fault>
+        ensures exact { λ r. ⌜ r ≡ judgement writes (now (self .entry)) (foot-refusal (writes .meaning (now (self .entry))) (instruct (now (i .entry)))) ⌝ }
+        ensures cases { λ r. ⌜ Judged writes (now (self .entry)) (foot-refusal (writes .meaning (now (self .entry))) (instruct (now (i .entry)))) r ⌝ }
+    {
+        self.admit(i)?;
+        if self.space() == 0 {
+            return Err(self.fault(Refusal::NoSpace));
+        }
+        Ok(())
+    }
+
     fn admit_end(&self) -> Result<(), Fault>
-        ensures exact { λ r. ⌜ r ≡ admission writes (now (self .entry)) end ⌝ }
-        ensures cases { λ r. ⌜ Admitted writes (now (self .entry)) end r ⌝ }
+        ensures exact { λ r. ⌜ r ≡ judgement writes (now (self .entry)) (refusal (writes .meaning (now (self .entry))) end) ⌝ }
+        ensures cases { λ r. ⌜ Judged writes (now (self .entry)) (refusal (writes .meaning (now (self .entry))) end) r ⌝ }
     {
         if self.has_ended() {
             return Err(self.fault(Refusal::Ended));

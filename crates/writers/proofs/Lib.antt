@@ -1,0 +1,4 @@
+pub mod Runs
+pub mod Footing
+pub mod Buffering
+pub mod Evaluating

@@ -44,7 +44,8 @@ impl<K: Kind> Machine<K> {
 
     // Begins a new run, in the room of the old one.
     pub fn restart(&mut self, start: &Cells)
-        ensures { λ _. ⌜ stands (now (self .exit)) ≡ going [] (now (start .entry)) ⌝ }
+        ensures stands { λ _. ⌜ stands (now (self .exit)) ≡ going [] (now (start .entry)) ⌝ }
+        ensures empty { λ _. ⌜ vec-len (now (self .exit) .values) ≡ 0 ⌝ }
     {
         self.values.clear();
         self.cells = *start;
