@@ -17,7 +17,8 @@ use std::marker::PhantomData;
 impl<K: Kind> Buffer<K> {
     // An empty buffer of so many places, at most 1,024.
     pub fn new(heap: Global, places: u16) -> Result<Buffer<K>, AllocError>
-        ensures { λ r. ⌜ made r (λ b. viewed b ≡ empty (min places 1024)) ⌝ }
+        ensures made { λ r. ⌜ made r (λ b. viewed b ≡ empty (min places 1024)) ⌝ }
+        ensures sound { λ r. ⌜ made r (λ b. buffers (K·Kind .arithmetic) .sound b) ⌝ }
     {
         let places = places.min(HANDLES);
         let kept = Vec::with_capacity(heap, places as usize)?;

@@ -17,7 +17,8 @@ use std::alloc::Global;
 impl<K: Kind> Evaluator<K> {
     // An evaluator at the start given, with nothing run yet.
     pub fn new(heap: Global, start: &Cells) -> Result<Evaluator<K>, AllocError>
-        ensures { λ r. ⌜ made r (λ e. viewed e ≡ fresh (now (start .entry))) ⌝ }
+        ensures made { λ r. ⌜ made r (λ e. viewed e ≡ fresh (now (start .entry))) ⌝ }
+        ensures sound { λ r. ⌜ made r (λ e. evaluates (K·Kind .arithmetic) .sound e) ⌝ }
     {
         let machine = Machine::new(heap, start)?;
         Ok(Evaluator { machine, handles: 0, taken: 0, over: false })

@@ -42,6 +42,13 @@ impl<K: Kind> Machine<K> {
         &self.cells
     }
 
+    // The values so far, where the run is going.
+    pub fn values(&self) -> &[Code]
+        ensures { λ r. ⌜ now r ≡ vec-items (now (self .entry) .values) ⌝ }
+    {
+        self.values.as_slice()
+    }
+
     // Begins a new run, in the room of the old one.
     pub fn restart(&mut self, start: &Cells)
         ensures stands { λ _. ⌜ stands (now (self .exit)) ≡ going [] (now (start .entry)) ⌝ }
