@@ -13,7 +13,7 @@ pub const STEPS: u16 = 4096;
 // one that no value has yet is refused where it is used.
 #[derive(Clone, Copy)]
 pub struct ValueNumber {
-    pub index: u16,
+    pub number: u16,
 }
 
 // Names of values are numbers, and a run keeps the value of a name at its number.
@@ -33,10 +33,10 @@ pub impl Name for Handle as HandleName {
 }
 
 pub impl Name for ValueNumber as ValueNumberName {
-    ghost number = { λ v. v .index };
+    ghost number = { λ v. v .number };
 
     fn number(&self) -> u16 {
-        self.index
+        self.number
     }
 }
 

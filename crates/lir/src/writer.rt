@@ -91,17 +91,17 @@ pub trait Writer {
         ensures exact { λ r. ⌜ r ≡ judgement writes (now (self .entry)) (refusal (writes .meaning (now (self .entry))) end) ⌝ }
         ensures cases { λ r. ⌜ Judged writes (now (self .entry)) (refusal (writes .meaning (now (self .entry))) end) r ⌝ }
     {
-        if self.has_ended() {
-            return Err(self.fault(Refusal::Ended));
+        if !self.has_ended() {
+            return Ok(());
         }
-        Ok(())
+        Err(self.fault(Refusal::Ended))
     }
 
     // The fault of a call whose numbers mean no instruction of its sort.
     fn malformed(&self) -> Fault
         ensures { λ r. ⌜ r ≡ malformed writes (now (self .entry)) ⌝ }
     {
-        if self.has_ended() { self.fault(Refusal::Ended) } else { self.fault(Refusal::Malformed) }
+        if !self.has_ended() { self.fault(Refusal::Malformed) } else { self.fault(Refusal::Ended) }
     }
 
     fn raw_value(&mut self, f: Fields<Handle>) -> Result<Handle, Fault>

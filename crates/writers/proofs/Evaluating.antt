@@ -14,7 +14,7 @@ use Rattle.lir.specs.declared.instruction.Instruction.the-variants.{Value as va
 use Rattle.writers.specs.Feet.{answer}
 use Rattle.writers.specs.Evaluators.{Evaluation, viewed, eval-meaning, after, eval-sound, eval-foot, evaluates}
 use Rattle.writers.specs.declared.evaluator.Evaluator.{Evaluator}
-use Rattle.writers.proofs.Runs.{fits-effect, fits-end}
+use Rattle.writers.proofs.Runs.{gives-one, fits-effect, fits-end}
 use Rattle.writers.proofs.Footing.{Grounded, grounded-lawful}
 
 module _ (k : Arithmetic) where
@@ -23,11 +23,6 @@ module _ (k : Arithmetic) where
   accepts e (value i) d p room = record { admitted = p; answered = inl (omega arith, refl, λ s. refl); counted = refl; spaced = inr (omega arith); goes-on = refl }
   accepts e (store i) d p room = record { admitted = p; answered = (omega arith, λ s. refl); counted = refl; spaced = inl (omega arith); goes-on = refl }
   accepts e (guard j) d p room = record { admitted = p; answered = (omega arith, λ s. refl); counted = refl; spaced = inl (omega arith); goes-on = refl }
-
-  gives-one : (i : Instruction Handle) → gives i ≤ 1
-  gives-one (value i) = omega arith
-  gives-one (store i) = omega arith
-  gives-one (guard j) = omega arith
 
   grounded : Grounded k (eval-foot k) eval-sound
   grounded = record {

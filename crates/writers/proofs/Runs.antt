@@ -16,6 +16,11 @@ use Rattle.lir.specs.declared.bounds.Handle.{Handle}
 use Rattle.lir.specs.declared.instruction.Instruction.{Instruction}
 use Rattle.lir.specs.declared.instruction.Instruction.the-variants.{Value as value, Store as store, Guard as guard}
 
+pub gives-one : {N : Type 0} (i : Instruction N) → gives i ≤ 1
+gives-one (value i) = omega arith
+gives-one (store i) = omega arith
+gives-one (guard g) = omega arith
+
 pub values-push : {N : Type 0} (is : List (Instruction N)) (i : Instruction N) → values-in (is ++ i ∷ []) ≡ values-in is + gives i
 values-push [] i = omega arith
 values-push (j ∷ js) i = let e = values-push js i in omega arith

@@ -60,24 +60,27 @@ pub impl<K: Kind> Writer for Evaluator<K> as EvaluatorWriter {
     }
 
     fn value(&mut self, i: Value<Handle>) -> Result<Handle, Fault> {
-        self.admit_at_foot(&Instruction::Value(i))?;
+        let next = Instruction::Value(i);
+        self.admit_at_foot(&next)?;
         let h = Handle::nth(self.handles);
-        self.machine.value(i);
+        self.machine.step(next);
         self.handles += 1;
         self.taken = self.taken.wrapping_add(1);
         Ok(h)
     }
 
     fn store(&mut self, i: Store<Handle>) -> Result<(), Fault> {
-        self.admit_at_foot(&Instruction::Store(i))?;
-        self.machine.store(i);
+        let next = Instruction::Store(i);
+        self.admit_at_foot(&next)?;
+        self.machine.step(next);
         self.taken = self.taken.wrapping_add(1);
         Ok(())
     }
 
     fn guard(&mut self, g: Guard<Handle>) -> Result<(), Fault> {
-        self.admit_at_foot(&Instruction::Guard(g))?;
-        self.machine.guard(g);
+        let next = Instruction::Guard(g);
+        self.admit_at_foot(&next)?;
+        self.machine.step(next);
         self.taken = self.taken.wrapping_add(1);
         Ok(())
     }

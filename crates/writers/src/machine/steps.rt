@@ -5,8 +5,9 @@ ghost use Prim.Native.Nat.{_+_, _<_, _≤_};
 ghost use Rattle.std.specs.Of.Vec.{vec-len, vec-items};
 ghost use Rattle.std.specs.Vec.{made};
 ghost use Rattle.lir.specs.declared.instruction.Instruction.the-variants.{Value as value, Store as store, Guard as guard};
-ghost use Rattle.lir.specs.Instructions.{going, value-of, value-at, stored, effect, finished};
+ghost use Rattle.lir.specs.Instructions.{going, value-of, value-at, stored, effect, finished, gives};
 ghost use Rattle.lir.specs.Writers.{index-of};
+ghost use Rattle.writers.specs.declared.machine.Outcome.the-variants.{Going};
 ghost use Rattle.writers.specs.Machines.{standing-of, stands, each-live};
 use super::{Machine, Outcome};
 use lir::apply::{apply, leaves};
@@ -89,46 +90,58 @@ impl<K: Kind> Machine<K> {
         }
     }
 
-    pub(crate) fn value(&mut self, i: Value<Handle>)
-        requires { ⌜ vec-len (now self .values) < 1024 ⌝ }
+    fn keep_value(&mut self, i: Value<Handle>)
+        requires { ⌜ now self .outcome ≡ Going ⌝ ∗ ⌜ vec-len (now self .values) < 1024 ⌝ }
         ensures stands { λ _. ⌜ stands (now (self .exit)) ≡ effect index-of (K·Kind .arithmetic) (value i) (stands (now (self .entry))) ⌝ }
-        ensures grows { λ _. ⌜ vec-len (now (self .exit) .values) ≤ vec-len (now (self .entry) .values) + 1 ⌝ }
+        ensures grows { λ _. ⌜ vec-len (now (self .exit) .values) ≡ vec-len (now (self .entry) .values) + 1 ⌝ }
     {
-        if let Outcome::Going = self.outcome {
-            let code = self.value_of(i);
-            self.values.push_reserved(code);
-        }
+        let code = self.value_of(i);
+        self.values.push_reserved(code);
     }
 
-    pub(crate) fn store(&mut self, i: Store<Handle>)
+    fn change_cell(&mut self, i: Store<Handle>)
+        requires { ⌜ now self .outcome ≡ Going ⌝ }
         ensures stands { λ _. ⌜ stands (now (self .exit)) ≡ effect index-of (K·Kind .arithmetic) (store i) (stands (now (self .entry))) ⌝ }
         ensures grows { λ _. ⌜ vec-len (now (self .exit) .values) ≡ vec-len (now (self .entry) .values) ⌝ }
     {
-        if let Outcome::Going = self.outcome {
-            match i {
-                Store::St(a, k) => {
-                    let code = self.value_at(a);
-                    self.cells.set(k, code);
-                }
-                Store::Stx(a, b) => {
-                    let code = self.value_at(a);
-                    let k = Cell::low(self.value_at(b));
-                    self.cells.set(k, code);
-                }
+        match i {
+            Store::St(a, k) => {
+                let code = self.value_at(a);
+                self.cells.set(k, code);
+            }
+            Store::Stx(a, b) => {
+                let code = self.value_at(a);
+                let k = Cell::low(self.value_at(b));
+                self.cells.set(k, code);
             }
         }
     }
 
-    pub(crate) fn guard(&mut self, g: Guard<Handle>)
+    fn leave_or_stay(&mut self, g: Guard<Handle>)
+        requires { ⌜ now self .outcome ≡ Going ⌝ }
         ensures stands { λ _. ⌜ stands (now (self .exit)) ≡ effect index-of (K·Kind .arithmetic) (guard g) (stands (now (self .entry))) ⌝ }
         ensures grows { λ _. ⌜ vec-len (now (self .exit) .values) ≡ vec-len (now (self .entry) .values) ⌝ }
     {
-        if let Outcome::Going = self.outcome {
-            let code = self.value_at(g.on);
-            if leaves::<K>(g.test, code) {
-                let lives = self.each_live(g.lives);
-                self.outcome = Outcome::Gone(g.exit, lives);
-            }
+        let code = self.value_at(g.on);
+        if leaves::<K>(g.test, code) {
+            let lives = self.each_live(g.lives);
+            self.outcome = Outcome::Gone(g.exit, lives);
+        }
+    }
+
+    // An instruction changes only a run that is going.
+    pub(crate) fn step(&mut self, i: Instruction<Handle>)
+        requires { ⌜ vec-len (now self .values) < 1024 ⌝ }
+        ensures stands { λ _. ⌜ stands (now (self .exit)) ≡ effect index-of (K·Kind .arithmetic) i (stands (now (self .entry))) ⌝ }
+        ensures grows { λ _. ⌜ vec-len (now (self .exit) .values) ≤ vec-len (now (self .entry) .values) + gives i ⌝ }
+    {
+        let Outcome::Going = self.outcome else {
+            return;
+        };
+        match i {
+            Instruction::Value(i) => self.keep_value(i),
+            Instruction::Store(i) => self.change_cell(i),
+            Instruction::Guard(g) => self.leave_or_stay(g),
         }
     }
 
@@ -138,18 +151,6 @@ impl<K: Kind> Machine<K> {
     {
         if let Outcome::Going = self.outcome {
             self.outcome = Outcome::Ended;
-        }
-    }
-
-    pub(crate) fn step(&mut self, i: Instruction<Handle>)
-        requires { ⌜ vec-len (now self .values) < 1024 ⌝ }
-        ensures stands { λ _. ⌜ stands (now (self .exit)) ≡ effect index-of (K·Kind .arithmetic) i (stands (now (self .entry))) ⌝ }
-        ensures grows { λ _. ⌜ vec-len (now (self .exit) .values) ≤ vec-len (now (self .entry) .values) + 1 ⌝ }
-    {
-        match i {
-            Instruction::Value(i) => self.value(i),
-            Instruction::Store(i) => self.store(i),
-            Instruction::Guard(g) => self.guard(g),
         }
     }
 }

@@ -9,7 +9,7 @@ use Rattle.lir.specs.Instructions.{Standing, going, effect, run, finished}
 use Rattle.lir.specs.Writers.{index-of}
 use Rattle.lir.specs.declared.bounds.Handle.{Handle}
 use Rattle.lir.specs.declared.instruction.Instruction.{Instruction}
-use Rattle.writers.proofs.Runs.{run-more, run-all}
+use Rattle.writers.proofs.Runs.{gives-one, run-more, run-all}
 use Rattle.writers.proofs.buffer.Buffer.run.Needs as need
 
 pub step-requires : need.step-requires
@@ -24,7 +24,7 @@ loop-i-again g c =
     (c .step .ensures .stands
       ∙ ap (λ (t : Standing). effect index-of (g .K·Kind .arithmetic) (c .i-item .result) t) (c .loop-i .inv .0)
       ∙ run-more (g .K·Kind .arithmetic) items (c .loop-i .i-index) (c .i-item .result) (going [] (c .args .start .now)) within item,
-     omega (arith, c .step .ensures .grows, c .loop-i .inv .1))
+     omega (arith, c .step .ensures .grows, c .loop-i .inv .1, gives-one (c .i-item .result)))
 
 pub returns-then-self : need.returns-then-self
 returns-then-self g c =
