@@ -13,7 +13,7 @@ pub impl Kind for Count as CountKind {
     ghost byte = { 0 };
 
     fn unit() -> Code {
-        Self::ONE
+        Code::new(Self::ONE.bits)
     }
 
     fn mark() -> u8 {

@@ -60,7 +60,7 @@ pub impl Kind for Bar20 as Bar20Kind {
     ghost byte = { 1 };
 
     fn unit() -> Code {
-        Self::ONE
+        Code::new(Self::ONE.bits)
     }
 
     fn mark() -> u8 {
@@ -92,7 +92,7 @@ pub impl Kind for Bar100 as Bar100Kind {
     ghost byte = { 2 };
 
     fn unit() -> Code {
-        Self::ONE
+        Code::new(Self::ONE.bits)
     }
 
     fn mark() -> u8 {

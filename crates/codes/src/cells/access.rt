@@ -13,15 +13,15 @@ impl Cells {
         Cells { codes: [zero; 64] }
     }
 
-    pub fn get(&self, cell: Cell) -> Code
-        ensures { λ r. ⌜ r ≡ code-in (now (self .entry)) cell ⌝ }
+    pub fn get(&self, from: Cell) -> Code
+        ensures { λ r. ⌜ r ≡ code-in (now (self .entry)) from ⌝ }
     {
-        self.codes[cell.index as usize]
+        self.codes[from.index as usize]
     }
 
-    pub fn set(&mut self, cell: Cell, code: Code)
-        ensures { λ _. ⌜ now (self .exit) ≡ written (now (self .entry)) cell code ⌝ }
+    pub fn set(&mut self, to: Cell, code: Code)
+        ensures { λ _. ⌜ now (self .exit) ≡ written (now (self .entry)) «to» code ⌝ }
     {
-        self.codes[cell.index as usize] = code;
+        self.codes[to.index as usize] = code;
     }
 }
