@@ -1,0 +1,4 @@
+mod Named
+mod Taken
+mod Changed
+mod Called

@@ -1,0 +1,61 @@
+// A session: what a script has chosen so far, and its lines one after another.
+use crate::bench::Bench;
+use crate::command::{Command, KindName, Work};
+use crate::error::Error;
+use crate::reply::Reply;
+use codes::count::{Count, CountKind};
+use codes::pressure::{Bar100, Bar100Kind, Bar20, Bar20Kind};
+use std::alloc::Global;
+use std::mem;
+
+// No kind is chosen yet, or one is, with its bench.
+#[derive(Drop)]
+pub enum Session {
+    Fresh,
+    Count(Bench<Count>),
+    Bar20(Bench<Bar20>),
+    Bar100(Bench<Bar100>),
+}
+
+impl Session {
+    pub fn of(kind: KindName) -> Session {
+        match kind {
+            KindName::Count => Session::Count(Bench::new(kind)),
+            KindName::Bar20 => Session::Bar20(Bench::new(kind)),
+            KindName::Bar100 => Session::Bar100(Bench::new(kind)),
+        }
+    }
+
+    // The bench is taken out for the work and put back.
+    fn work(&mut self, heap: Global, work: &Work) -> Result<Reply, Error> {
+        match mem::replace(self, Session::Fresh) {
+            Session::Fresh => Err(Error::NoKind),
+            Session::Count(mut bench) => {
+                let reply = bench.work(heap, work);
+                *self = Session::Count(bench);
+                reply
+            }
+            Session::Bar20(mut bench) => {
+                let reply = bench.work(heap, work);
+                *self = Session::Bar20(bench);
+                reply
+            }
+            Session::Bar100(mut bench) => {
+                let reply = bench.work(heap, work);
+                *self = Session::Bar100(bench);
+                reply
+            }
+        }
+    }
+
+    // A kind begins afresh; all else is done on the bench.
+    pub fn step(&mut self, heap: Global, command: &Command) -> Result<Reply, Error> {
+        match command {
+            Command::Kind(kind) => {
+                *self = Session::of(*kind);
+                Ok(Reply::Kind(*kind))
+            }
+            Command::Work(work) => self.work(heap, work),
+        }
+    }
+}
