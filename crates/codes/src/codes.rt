@@ -2,7 +2,8 @@
 ghost use mathlib.Core.Path.{_≡_};
 ghost use Rattle.codes.specs.Codes.{code, same};
 ghost use Rattle.codes.specs.Bounds.{cell-at, low-cell};
-use crate::bounds::{Cell, Code};
+use crate::bounds::Cell;
+use crate::bounds::Code;
 
 // How many cells there are.
 pub const CELLS: u16 = 64;
@@ -26,13 +27,19 @@ impl Cell {
     pub fn new(index: u16) -> Option<Cell>
         ensures { λ r. ⌜ r ≡ cell-at index ⌝ }
     {
-        if index < CELLS { Some(Cell { index }) } else { None }
+        if index < CELLS {
+            Some(Cell { index })
+        } else {
+            None
+        }
     }
 
     // The cell numbered by the low six bits of a code.
     pub fn low(code: Code) -> Cell
         ensures { λ r. ⌜ r ≡ low-cell code ⌝ }
     {
-        Cell { index: (code.bits % 64) as u16 }
+        Cell {
+            index: (code.bits % 64) as u16,
+        }
     }
 }

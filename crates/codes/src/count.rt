@@ -7,9 +7,11 @@ pub struct Count;
 
 pub impl Kind for Count as CountKind {
     const ONE: Code = Code { bits: 1 };
+
     const FILE_BYTE: u8 = 0;
 
     ghost arithmetic = { count };
+
     ghost byte = { 0 };
 
     fn unit() -> Code {

@@ -9,9 +9,11 @@ use crate::bounds::Code;
 // `unit` and `mark` say them again with a promise.
 pub trait Kind {
     const ONE: Code;
+
     const FILE_BYTE: u8;
 
     ghost arithmetic: { Arithmetic };
+
     ghost byte: { ℕ };
 
     law laws: { Laws arithmetic };

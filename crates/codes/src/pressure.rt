@@ -54,9 +54,11 @@ fn less_than(p: Code, q: Code) -> bool
 
 pub impl Kind for Bar20 as Bar20Kind {
     const ONE: Code = Code { bits: 20 };
+
     const FILE_BYTE: u8 = 1;
 
     ghost arithmetic = { pressure 20 };
+
     ghost byte = { 1 };
 
     fn unit() -> Code {
@@ -86,9 +88,11 @@ pub impl Kind for Bar20 as Bar20Kind {
 
 pub impl Kind for Bar100 as Bar100Kind {
     const ONE: Code = Code { bits: 100 };
+
     const FILE_BYTE: u8 = 2;
 
     ghost arithmetic = { pressure 100 };
+
     ghost byte = { 2 };
 
     fn unit() -> Code {

@@ -1,6 +1,11 @@
 // Lines that end a script, each with what was expected there.
 use script::command::KindName;
-use script::error::{Error, ErrorDebug, ErrorPartialEq, Expected, ExpectedDebug, ExpectedPartialEq};
+use script::error::Error;
+use script::error::ErrorDebug;
+use script::error::ErrorPartialEq;
+use script::error::Expected;
+use script::error::ExpectedDebug;
+use script::error::ExpectedPartialEq;
 use script::session::Session;
 use std::alloc::Global;
 use std::test::*;
@@ -13,7 +18,10 @@ fn fault(heap: Global, mut session: Session, line: &str) -> Option<Error> {
 }
 
 fn unread(heap: Global, line: &str, expected: Expected) -> Result<(), Fail> {
-    check_eq(fault(heap, Session::of(KindName::Count), line), Some(Error::Unread(expected)))
+    check_eq(
+        fault(heap, Session::of(KindName::Count), line),
+        Some(Error::Unread(expected)),
+    )
 }
 
 #[test]
@@ -43,8 +51,17 @@ fn numbers_are_checked(rt: LibcRuntime) -> Result<(), Fail> {
 #[test]
 fn a_kind_and_a_foot_come_first(rt: LibcRuntime) -> Result<(), Fail> {
     let heap = rt.alloc();
-    check_eq(fault(heap, Session::Fresh, "foot evaluator"), Some(Error::NoKind))?;
-    check_eq(fault(heap, Session::of(KindName::Bar20), "end"), Some(Error::NoFoot))?;
-    check_eq(fault(heap, Session::of(KindName::Bar20), "cell 63 -1"), None)?;
+    check_eq(
+        fault(heap, Session::Fresh, "foot evaluator"),
+        Some(Error::NoKind),
+    )?;
+    check_eq(
+        fault(heap, Session::of(KindName::Bar20), "end"),
+        Some(Error::NoFoot),
+    )?;
+    check_eq(
+        fault(heap, Session::of(KindName::Bar20), "cell 63 -1"),
+        None,
+    )?;
     check_eq(fault(heap, Session::Fresh, "  # only a comment"), None)
 }

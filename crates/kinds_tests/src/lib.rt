@@ -1,8 +1,12 @@
 // Tests of the three kinds against a table.
 use codes::bounds::Code;
-use codes::count::{Count, CountKind};
+use codes::count::Count;
+use codes::count::CountKind;
 use codes::kind::Kind;
-use codes::pressure::{Bar100, Bar100Kind, Bar20, Bar20Kind};
+use codes::pressure::Bar20;
+use codes::pressure::Bar20Kind;
+use codes::pressure::Bar100;
+use codes::pressure::Bar100Kind;
 use lir::apply::apply;
 use lir::instruction::Op;
 
@@ -70,7 +74,13 @@ mod tests {
     fn pressure_sums_may_not_be_regrouped() -> Result<(), Fail> {
         let most = Code::new(2147483647);
         let one = Code::new(1);
-        check_eq(Bar100Kind::difference(Bar100Kind::sum(most, one), one).bits, 2147483646)?;
-        check_eq(Bar100Kind::sum(most, Bar100Kind::difference(one, one)).bits, 2147483647)
+        check_eq(
+            Bar100Kind::difference(Bar100Kind::sum(most, one), one).bits,
+            2147483646,
+        )?;
+        check_eq(
+            Bar100Kind::sum(most, Bar100Kind::difference(one, one)).bits,
+            2147483647,
+        )
     }
 }

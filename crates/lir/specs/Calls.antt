@@ -49,22 +49,22 @@ module _ {N : Type 0} (f : Fields N) (lives : List N) where
 
   abbrev pub table : List (ℕ × Option (Instruction N))
   table =
-    (1, Some (value (Imm (f .code)))) ∷
-    (2, Some (value (Binary Add (f .a) (f .b)))) ∷
-    (3, Some (value (Binary Sub (f .a) (f .b)))) ∷
-    (4, Some (value (Binary Mul (f .a) (f .b)))) ∷
-    (5, Some (value (Binary And (f .a) (f .b)))) ∷
-    (6, Some (value (Binary Or (f .a) (f .b)))) ∷
-    (7, Some (value (Binary Xor (f .a) (f .b)))) ∷
-    (10, Some (value (Binary Eq (f .a) (f .b)))) ∷
-    (11, Some (value (Binary Lt (f .a) (f .b)))) ∷
-    (12, meant (λ c. value (Ld c)) (cell-at (f .cell))) ∷
-    (13, Some (value (Ldx (f .a)))) ∷
-    (16, meant (λ c. store (St (f .a) c)) (cell-at (f .cell))) ∷
-    (17, Some (store (Stx (f .a) (f .b)))) ∷
-    (18, guard-by Xt) ∷
-    (19, guard-by Xf) ∷
-    (20, guard-by (Xge (f .code))) ∷ []
+      (1, Some (value (Imm (f .code)))) ∷
+      (2, Some (value (Binary Add (f .a) (f .b)))) ∷
+      (3, Some (value (Binary Sub (f .a) (f .b)))) ∷
+      (4, Some (value (Binary Mul (f .a) (f .b)))) ∷
+      (5, Some (value (Binary And (f .a) (f .b)))) ∷
+      (6, Some (value (Binary Or (f .a) (f .b)))) ∷
+      (7, Some (value (Binary Xor (f .a) (f .b)))) ∷
+      (10, Some (value (Binary Eq (f .a) (f .b)))) ∷
+      (11, Some (value (Binary Lt (f .a) (f .b)))) ∷
+      (12, meant (λ c. value (Ld c)) (cell-at (f .cell))) ∷
+      (13, Some (value (Ldx (f .a)))) ∷
+      (16, meant (λ c. store (St (f .a) c)) (cell-at (f .cell))) ∷
+      (17, Some (store (Stx (f .a) (f .b)))) ∷
+      (18, guard-by Xt) ∷
+      (19, guard-by Xf) ∷
+      (20, guard-by (Xge (f .code))) ∷ []
 
   abbrev pub meaning : Option (Instruction N)
   meaning = found (f .op) table

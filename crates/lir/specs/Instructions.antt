@@ -23,7 +23,6 @@ use Rattle.lir.specs.declared.instruction.Test.the-variants.{Xt, Xf, Xge}
 use Rattle.lir.specs.declared.instruction.Lives.{Lives}
 use Rattle.lir.specs.declared.instruction.Lives.the-variants.{Zero, One, Two, Three, Four}
 use Rattle.lir.specs.declared.instruction.Guard.{Guard}
-
 pub use Rattle.lir.specs.declared.instruction.Instruction.{Instruction}
 pub use Rattle.lir.specs.declared.instruction.Instruction.the-variants.{Value as value, Store as store, Guard as guard}
 

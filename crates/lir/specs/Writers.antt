@@ -82,7 +82,7 @@ module _ (k : Arithmetic) where
 
   abbrev pub Found : Value Handle → Handle → Meaning → Meaning → Type 0
   Found i h m m′ = (h .index < m .handles) × (m′ .handles ≡ m .handles)
-    × ((s : Cells) → (m′ .standing s ≡ m .standing s) × Going (λ vs cs. value-at index-of vs h ≡ value-of k (value-at index-of vs) cs i) (m .standing s))
+      × ((s : Cells) → (m′ .standing s ≡ m .standing s) × Going (λ vs cs. value-at index-of vs h ≡ value-of k (value-at index-of vs) cs i) (m .standing s))
 
   abbrev pub Carried : Instruction Handle → Meaning → Meaning → Type 0
   Carried i m m′ = (m′ .handles ≡ m .handles) × ((s : Cells) → m′ .standing s ≡ effect index-of k i (m .standing s))

@@ -1,8 +1,9 @@
 // What the pure instructions compute, and when guards leave.
 ghost use mathlib.Core.Path.{_≡_};
 ghost use Rattle.lir.specs.Instructions.{apply, leaves, truth};
+use crate::instruction::Op;
+use crate::instruction::Test;
 use codes::bounds::Code;
-use crate::instruction::{Op, Test};
 use codes::kind::Kind;
 
 // A comparison answers the codes 1 and 0 in every kind.

@@ -2,8 +2,15 @@
 ghost use mathlib.Core.Path.{_≡_};
 ghost use Rattle.lir.specs.Calls.{lives-of, guard-by, meaning, value-call, store-call, guard-call};
 use crate::bounds::Exit;
-use codes::bounds::{Cell, Code};
-use crate::instruction::{Guard, Instruction, Lives, Op, Store, Test, Value};
+use crate::instruction::Guard;
+use crate::instruction::Instruction;
+use crate::instruction::Lives;
+use crate::instruction::Op;
+use crate::instruction::Store;
+use crate::instruction::Test;
+use crate::instruction::Value;
+use codes::bounds::Cell;
+use codes::bounds::Code;
 
 // The numbers of a call but for its lives. A field that the op does not use is ignored, whatever it holds.
 #[derive(Clone, Copy)]
@@ -34,7 +41,12 @@ impl<N: Copy> Lives<N> {
 fn guard_by<N: Copy>(test: Test, f: Fields<N>, lives: &[N]) -> Option<Instruction<N>>
     ensures { λ r. ⌜ r ≡ guard-by f (now (lives .entry)) test ⌝ }
 {
-    Some(Instruction::Guard(Guard { test, on: f.a, exit: Exit::new(f.exit)?, lives: Lives::new(lives)? }))
+    Some(Instruction::Guard(Guard {
+        test,
+        on: f.a,
+        exit: Exit::new(f.exit)?,
+        lives: Lives::new(lives)?,
+    }))
 }
 
 // The instruction that a call's numbers mean, or none where its op or one of its fields is out of bounds.

@@ -1,7 +1,11 @@
 // Whether every operand and live of an instruction names one of the first n values.
 ghost use mathlib.Core.Path.{_≡_};
 ghost use Rattle.lir.specs.Instructions.{known, all-known, names, defined-value, defined-store, defined-guard, defined};
-use crate::instruction::{Guard, Instruction, Lives, Store, Value};
+use crate::instruction::Guard;
+use crate::instruction::Instruction;
+use crate::instruction::Lives;
+use crate::instruction::Store;
+use crate::instruction::Value;
 use crate::names::Name;
 
 fn known<N: Name>(a: &N, n: u16) -> bool

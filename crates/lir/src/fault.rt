@@ -50,4 +50,5 @@ pub struct Fault {
 
 // The parts of the library, by the numbers that faults name them with.
 pub const BUFFER_PART: u8 = 2;
+
 pub const EVALUATOR_PART: u8 = 3;

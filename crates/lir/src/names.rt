@@ -2,11 +2,15 @@
 ghost use mathlib.Core.Path.{_≡_};
 ghost use Prim.Native.Nat.{ℕ};
 ghost use Rattle.lir.specs.Limits.{handle-at, handle-of, exit-at, place-at};
-use crate::bounds::{Exit, Handle, Place};
+use crate::bounds::Exit;
+use crate::bounds::Handle;
+use crate::bounds::Place;
 
 // How many there are of each.
 pub const HANDLES: u16 = 1024;
+
 pub const EXITS: u16 = 256;
+
 pub const STEPS: u16 = 4096;
 
 // The number of a value in the order in which a recording accepted it. Any number may be asked for;
@@ -45,7 +49,11 @@ impl Handle {
     pub fn new(index: u16) -> Option<Handle>
         ensures { λ r. ⌜ r ≡ handle-at index ⌝ }
     {
-        if index < HANDLES { Some(Handle { index }) } else { None }
+        if index < HANDLES {
+            Some(Handle { index })
+        } else {
+            None
+        }
     }
 
     // The handle that follows `n` others. A writer has at most 1,024, so the remainder changes nothing there.
@@ -60,7 +68,11 @@ impl Exit {
     pub fn new(label: u16) -> Option<Exit>
         ensures { λ r. ⌜ r ≡ exit-at label ⌝ }
     {
-        if label < EXITS { Some(Exit { label }) } else { None }
+        if label < EXITS {
+            Some(Exit { label })
+        } else {
+            None
+        }
     }
 }
 
@@ -68,6 +80,10 @@ impl Place {
     pub fn new(step: u16) -> Option<Place>
         ensures { λ r. ⌜ r ≡ place-at step ⌝ }
     {
-        if step < STEPS { Some(Place { step }) } else { None }
+        if step < STEPS {
+            Some(Place { step })
+        } else {
+            None
+        }
     }
 }

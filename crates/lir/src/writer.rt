@@ -4,12 +4,19 @@ ghost use Rattle.lir.specs.Instructions.{value, store, guard};
 ghost use Rattle.lir.specs.Calls.{meant, value-call, store-call, guard-call};
 ghost use Rattle.lir.specs.Writers.{Writes, Lawful, instruct, end, handled, settled, refusal, foot-refusal, own-fault, judgement, Judged, malformed, By-numbers};
 use crate::bounds::Handle;
-use crate::call::{Fields, read_guard, read_store, read_value};
+use crate::call::Fields;
+use crate::call::read_guard;
+use crate::call::read_store;
+use crate::call::read_value;
 use crate::defined::defined;
-use crate::fault::{Fault, Refusal};
-use crate::instruction::{Guard, Instruction, Store, Value};
-use codes::kind::Kind;
+use crate::fault::Fault;
+use crate::fault::Refusal;
+use crate::instruction::Guard;
+use crate::instruction::Instruction;
+use crate::instruction::Store;
+use crate::instruction::Value;
 use crate::names::HandleName;
+use codes::kind::Kind;
 
 // `PART` is the number by which faults name the writer; generic code learns nothing of a constant, so
 // `part_number` says it again with a promise. Whoever calls a writer may rely on `writes`: the exact steps of
@@ -58,7 +65,11 @@ pub trait Writer {
     fn fault(&self, refusal: Refusal) -> Fault
         ensures { λ r. ⌜ r ≡ own-fault writes (now (self .entry)) refusal ⌝ }
     {
-        Fault { refusal, part: Self::part_number(), place: self.taken() }
+        Fault {
+            refusal,
+            part: Self::part_number(),
+            place: self.taken(),
+        }
     }
 
     // The checks that every writer makes first.
@@ -101,7 +112,11 @@ pub trait Writer {
     fn malformed(&self) -> Fault
         ensures { λ r. ⌜ r ≡ malformed writes (now (self .entry)) ⌝ }
     {
-        if !self.has_ended() { self.fault(Refusal::Malformed) } else { self.fault(Refusal::Ended) }
+        if !self.has_ended() {
+            self.fault(Refusal::Malformed)
+        } else {
+            self.fault(Refusal::Ended)
+        }
     }
 
     fn raw_value(&mut self, f: Fields<Handle>) -> Result<Handle, Fault>

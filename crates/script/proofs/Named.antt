@@ -55,8 +55,8 @@ module _ (f : Fields Handle) where
   st-kept (Some c) = refl
 
   guard-kept-at : (t : Test) (x : Option Exit) (l : Option (Lives Handle))
-    → meant guard (also (also x (λ e. meant (λ l. guard (record { test = t; on = f .a; exit = e; lives = l })) l)) a-guard)
-    ≡ also x (λ e. meant (λ l. guard (record { test = t; on = f .a; exit = e; lives = l })) l)
+      → meant guard (also (also x (λ e. meant (λ l. guard (record { test = t; on = f .a; exit = e; lives = l })) l)) a-guard)
+      ≡ also x (λ e. meant (λ l. guard (record { test = t; on = f .a; exit = e; lives = l })) l)
   guard-kept-at t None l = refl
   guard-kept-at t (Some e) None = refl
   guard-kept-at t (Some e) (Some l) = refl

@@ -18,13 +18,13 @@ use Rattle.script.specs.Meanings.{Took, answered}
 module _ {W : Type 0} (ws : Writes W) (w w′ : W) (call : Call) (r : Reply) (a : Answer) (same : answered r ≡ a) where
   pub took-value : (f : Fields Handle) → call ≡ value-line f → By-numbers ws w (meant value (value-call f)) a w′ → Took ws w call r w′
   took-value f e h =
-    subst (λ (k : Call). Took ws w k r w′) (sym e) (subst (λ (x : Answer). By-numbers ws w (meant value (value-call f)) x w′) (sym same) h)
+      subst (λ (k : Call). Took ws w k r w′) (sym e) (subst (λ (x : Answer). By-numbers ws w (meant value (value-call f)) x w′) (sym same) h)
 
   pub took-store : (f : Fields Handle) → call ≡ store-line f → By-numbers ws w (meant store (store-call f)) a w′ → Took ws w call r w′
   took-store f e h =
-    subst (λ (k : Call). Took ws w k r w′) (sym e) (subst (λ (x : Answer). By-numbers ws w (meant store (store-call f)) x w′) (sym same) h)
+      subst (λ (k : Call). Took ws w k r w′) (sym e) (subst (λ (x : Answer). By-numbers ws w (meant store (store-call f)) x w′) (sym same) h)
 
   pub took-guard : (f : Fields Handle) (v : Vec Handle Global) (ls : List Handle) → call ≡ guard-line f v → ls ≡ vec-items v → By-numbers ws w (meant guard (guard-call f ls)) a w′ → Took ws w call r w′
   took-guard f v ls e l h =
-    let for-lives = subst (λ (xs : List Handle). By-numbers ws w (meant guard (guard-call f xs)) a w′) l h in
-    subst (λ (k : Call). Took ws w k r w′) (sym e) (subst (λ (x : Answer). By-numbers ws w (meant guard (guard-call f (vec-items v))) x w′) (sym same) for-lives)
+      let for-lives = subst (λ (xs : List Handle). By-numbers ws w (meant guard (guard-call f xs)) a w′) l h in
+      subst (λ (k : Call). Took ws w k r w′) (sym e) (subst (λ (x : Answer). By-numbers ws w (meant guard (guard-call f (vec-items v))) x w′) (sym same) for-lives)

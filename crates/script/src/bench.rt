@@ -6,12 +6,21 @@ ghost use Rattle.script.specs.declared.bench.Foot.the-variants.{Open};
 ghost use Rattle.script.specs.Benches.{Called, Chosen, Ran, asked};
 ghost use Rattle.script.specs.Numbers.{shown};
 use crate::calls;
-use crate::command::{Call, FootSpec, KindName, Work};
-use crate::error::{Error, ErrorFromAlloc};
+use crate::command::Call;
+use crate::command::FootSpec;
+use crate::command::KindName;
+use crate::command::Work;
+use crate::error::Error;
+use crate::error::ErrorFromAlloc;
 use crate::numbers::Number;
-use crate::reply::{Answer, Content, Counts, Reply, Report};
+use crate::reply::Answer;
+use crate::reply::Content;
+use crate::reply::Counts;
+use crate::reply::Reply;
+use crate::reply::Report;
 use crate::report::report;
-use codes::bounds::{Cell, Code};
+use codes::bounds::Cell;
+use codes::bounds::Code;
 use codes::cells::Cells;
 use codes::kind::Kind;
 use lir::writer::Writer;
@@ -44,7 +53,11 @@ impl<K: Kind> Bench<K> {
         ensures start { λ r. ⌜ r .start ≡ blank ⌝ }
         ensures foot { λ r. ⌜ r .foot ≡ Open ⌝ }
     {
-        Bench { kind, start: Cells::new(), foot: Foot::Open }
+        Bench {
+            kind,
+            start: Cells::new(),
+            foot: Foot::Open,
+        }
     }
 
     pub fn set(&mut self, cell: Cell, code: Code) -> Content
@@ -54,7 +67,10 @@ impl<K: Kind> Bench<K> {
         ensures foot { λ _. ⌜ now (self .exit) .foot ≡ now (self .entry) .foot ⌝ }
     {
         self.start.set(cell, code);
-        Content { cell, number: Number::of(self.kind, code) }
+        Content {
+            cell,
+            number: Number::of(self.kind, code),
+        }
     }
 
     // What is chosen is answered with the places that a buffer really has.
@@ -109,7 +125,12 @@ impl<K: Kind> Bench<K> {
                 buffer.run(&self.start, &mut machine);
                 report(heap, self.kind, &self.start, &machine)
             }
-            Foot::Evaluator(evaluator, start) => report(heap, self.kind, start, evaluator.machine()),
+            Foot::Evaluator(evaluator, start) => report(
+                heap,
+                self.kind,
+                start,
+                evaluator.machine(),
+            ),
         }
     }
 

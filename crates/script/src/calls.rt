@@ -3,7 +3,8 @@ ghost use mathlib.Core.Path.{_≡_};
 ghost use Rattle.script.specs.Meanings.{Took, answered, counts};
 ghost use Rattle.lir.specs.Writers.{handled, settled};
 use crate::command::Call;
-use crate::reply::{Answer, Counts};
+use crate::reply::Answer;
+use crate::reply::Counts;
 use lir::bounds::Handle;
 use lir::fault::Fault;
 use lir::writer::Writer;
@@ -41,5 +42,10 @@ pub fn call<W: Writer>(writer: &mut W, call: &Call) -> Answer
 pub fn ask<W: Writer>(writer: &W) -> Counts
     ensures { λ r. ⌜ r ≡ counts (W·Writer .writes .meaning (now (writer .entry))) ⌝ }
 {
-    Counts { handles: writer.handles(), taken: writer.taken(), space: writer.space(), ended: writer.has_ended() }
+    Counts {
+        handles: writer.handles(),
+        taken: writer.taken(),
+        space: writer.space(),
+        ended: writer.has_ended(),
+    }
 }

@@ -1,5 +1,6 @@
 // What a line of a script asks for.
-use codes::bounds::{Cell, Code};
+use codes::bounds::Cell;
+use codes::bounds::Code;
 use lir::bounds::Handle;
 use lir::call::Fields;
 

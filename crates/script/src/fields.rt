@@ -11,5 +11,12 @@ pub fn blank(op: Mnemonic) -> Fields<Handle>
     ensures { λ r. ⌜ r ≡ blank op ⌝ }
 {
     let none = Handle::nth(0);
-    Fields { op: op.number(), a: none, b: none, cell: 0, code: Code::new(0), exit: 0 }
+    Fields {
+        op: op.number(),
+        a: none,
+        b: none,
+        cell: 0,
+        code: Code::new(0),
+        exit: 0,
+    }
 }

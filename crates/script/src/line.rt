@@ -1,7 +1,9 @@
 // One line of a script: what it asks for, and what it is answered.
 use crate::error::Error;
-use crate::parse::{action, command};
-use crate::reply::{Reply, ReplyDisplay};
+use crate::parse::action;
+use crate::parse::command;
+use crate::reply::Reply;
+use crate::reply::ReplyDisplay;
 use crate::session::Session;
 use std::alloc::Global;
 use std::fmt;

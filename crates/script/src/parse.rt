@@ -3,10 +3,17 @@ ghost use mathlib.Core.Path.{_≡_};
 ghost use Rattle.std.specs.Vec.{made};
 ghost use Rattle.script.specs.Meanings.{Intended};
 ghost use Rattle.script.specs.Names.{number};
-use crate::command::{Call, Command, FootSpec, KindName, Work};
-use crate::error::{Error, ErrorFromAlloc, Expected};
+use crate::command::Call;
+use crate::command::Command;
+use crate::command::FootSpec;
+use crate::command::KindName;
+use crate::command::Work;
+use crate::error::Error;
+use crate::error::ErrorFromAlloc;
+use crate::error::Expected;
 use crate::fields::blank;
-use crate::mnemonic::{Mnemonic, Sort};
+use crate::mnemonic::Mnemonic;
+use crate::mnemonic::Sort;
 use crate::words::Words;
 use codes::bounds::Code;
 use lir::bounds::Handle;
@@ -64,13 +71,39 @@ fn operands(name: Mnemonic, words: &mut Words) -> Result<Fields<Handle>, Error>
 {
     let fields = blank(name);
     match name {
-        Mnemonic::Imm => Ok(Fields { code: words.code()?, ..fields }),
-        Mnemonic::Binary(_) | Mnemonic::Stx => Ok(Fields { a: words.handle()?, b: words.handle()?, ..fields }),
-        Mnemonic::Ld => Ok(Fields { cell: cell_number(words)?, ..fields }),
-        Mnemonic::Ldx => Ok(Fields { a: words.handle()?, ..fields }),
-        Mnemonic::St => Ok(Fields { a: words.handle()?, cell: cell_number(words)?, ..fields }),
-        Mnemonic::Xt | Mnemonic::Xf => Ok(Fields { a: words.handle()?, exit: exit(words)?, ..fields }),
-        Mnemonic::Xge => Ok(Fields { a: words.handle()?, code: words.code()?, exit: exit(words)?, ..fields }),
+        Mnemonic::Imm => Ok(Fields {
+            code: words.code()?,
+            ..fields
+        }),
+        Mnemonic::Binary(_) | Mnemonic::Stx => Ok(Fields {
+            a: words.handle()?,
+            b: words.handle()?,
+            ..fields
+        }),
+        Mnemonic::Ld => Ok(Fields {
+            cell: cell_number(words)?,
+            ..fields
+        }),
+        Mnemonic::Ldx => Ok(Fields {
+            a: words.handle()?,
+            ..fields
+        }),
+        Mnemonic::St => Ok(Fields {
+            a: words.handle()?,
+            cell: cell_number(words)?,
+            ..fields
+        }),
+        Mnemonic::Xt | Mnemonic::Xf => Ok(Fields {
+            a: words.handle()?,
+            exit: exit(words)?,
+            ..fields
+        }),
+        Mnemonic::Xge => Ok(Fields {
+            a: words.handle()?,
+            code: words.code()?,
+            exit: exit(words)?,
+            ..fields
+        }),
     }
 }
 
@@ -92,7 +125,14 @@ fn raw_value(words: &mut Words) -> Result<Call, Error> {
     let b = words.handle()?;
     let cell = cell_number(words)?;
     let code = words.code()?;
-    Ok(Call::Value(Fields { op, a, b, cell, code, exit: 0 }))
+    Ok(Call::Value(Fields {
+        op,
+        a,
+        b,
+        cell,
+        code,
+        exit: 0,
+    }))
 }
 
 fn raw_store(words: &mut Words) -> Result<Call, Error> {
@@ -100,7 +140,14 @@ fn raw_store(words: &mut Words) -> Result<Call, Error> {
     let a = words.handle()?;
     let cell = cell_number(words)?;
     let b = words.handle()?;
-    Ok(Call::Store(Fields { op, a, b, cell, code: Code::new(0), exit: 0 }))
+    Ok(Call::Store(Fields {
+        op,
+        a,
+        b,
+        cell,
+        code: Code::new(0),
+        exit: 0,
+    }))
 }
 
 fn raw_guard(heap: Global, words: &mut Words) -> Result<Call, Error> {
@@ -108,7 +155,14 @@ fn raw_guard(heap: Global, words: &mut Words) -> Result<Call, Error> {
     let a = words.handle()?;
     let code = words.code()?;
     let exit = exit(words)?;
-    let fields = Fields { op, a, b: Handle::nth(0), cell: 0, code, exit };
+    let fields = Fields {
+        op,
+        a,
+        b: Handle::nth(0),
+        cell: 0,
+        code,
+        exit,
+    };
     Ok(Call::Guard(fields, words.handles(heap)?))
 }
 

@@ -1,9 +1,14 @@
 // What a line of a script is answered.
-use crate::command::{FootSpec, KindName};
-use crate::numbers::{Number, NumberDisplay};
-use crate::words_for::{kind_name, part_name, refusal_text};
+use crate::command::FootSpec;
+use crate::command::KindName;
+use crate::numbers::Number;
+use crate::numbers::NumberDisplay;
+use crate::words_for::kind_name;
+use crate::words_for::part_name;
+use crate::words_for::refusal_text;
 use codes::bounds::Cell;
-use lir::bounds::{Exit, Handle};
+use lir::bounds::Exit;
+use lir::bounds::Handle;
 use lir::fault::Fault;
 use lir::instruction::Lives;
 use std::fmt;
@@ -81,7 +86,10 @@ fn show_fault<W: fmt::Write>(fault: Fault, f: &mut fmt::Formatter<W>) -> fmt::Re
     let part = fault.part;
     let name = part_name(part);
     let place = fault.place;
-    write!(f, "refused {number}: {text} (part {part}, {name}; place {place})")
+    write!(
+        f,
+        "refused {number}: {text} (part {part}, {name}; place {place})"
+    )
 }
 
 fn show_lives<W: fmt::Write>(lives: Lives<Number>, f: &mut fmt::Formatter<W>) -> fmt::Result {
@@ -126,7 +134,12 @@ pub impl fmt::Display for Report as ReportDisplay {
 
 pub impl fmt::Display for Counts as CountsDisplay {
     fn fmt<W: fmt::Write>(&self, f: &mut fmt::Formatter<W>) -> fmt::Result {
-        let Counts { handles, taken, space, ended } = *self;
+        let Counts {
+            handles,
+            taken,
+            space,
+            ended,
+        } = *self;
         let over = if ended { "ended" } else { "not ended" };
         write!(f, "{handles} handles, {taken} taken, space {space}, {over}")
     }

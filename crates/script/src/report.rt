@@ -5,16 +5,21 @@ ghost use Rattle.std.specs.Vec.{made};
 ghost use Rattle.script.specs.Reports.{change, changes, numbers, stands, tells, told};
 ghost use Rattle.writers.specs.Machines.{stands as where-stands};
 use crate::command::KindName;
-use crate::error::{Error, ErrorFromRefused};
+use crate::error::Error;
+use crate::error::ErrorFromRefused;
 use crate::numbers::Number;
-use crate::reply::{Content, Report, Standing};
-use codes::bounds::{Cell, Code};
+use crate::reply::Content;
+use crate::reply::Report;
+use crate::reply::Standing;
+use codes::bounds::Cell;
+use codes::bounds::Code;
 use codes::cells::Cells;
-use lir::instruction::Lives;
 use codes::codes::CELLS;
 use codes::kind::Kind;
+use lir::instruction::Lives;
 use std::alloc::Global;
-use writers::machine::{Machine, Outcome};
+use writers::machine::Machine;
+use writers::machine::Outcome;
 
 fn numbers(kind: KindName, lives: Lives<Code>) -> Lives<Number>
     ensures { λ r. ⌜ r ≡ numbers kind lives ⌝ }
@@ -23,9 +28,18 @@ fn numbers(kind: KindName, lives: Lives<Code>) -> Lives<Number>
         Lives::Zero => Lives::Zero,
         Lives::One(p) => Lives::One(Number::of(kind, p)),
         Lives::Two(p, q) => Lives::Two(Number::of(kind, p), Number::of(kind, q)),
-        Lives::Three(p, q, s) => Lives::Three(Number::of(kind, p), Number::of(kind, q), Number::of(kind, s)),
+        Lives::Three(p, q, s) => Lives::Three(
+            Number::of(kind, p),
+            Number::of(kind, q),
+            Number::of(kind, s),
+        ),
         Lives::Four(p, q, s, t) => {
-            Lives::Four(Number::of(kind, p), Number::of(kind, q), Number::of(kind, s), Number::of(kind, t))
+            Lives::Four(
+                Number::of(kind, p),
+                Number::of(kind, q),
+                Number::of(kind, s),
+                Number::of(kind, t),
+            )
         }
     }
 }
@@ -49,7 +63,10 @@ fn change(kind: KindName, from: &Cells, to: &Cells, index: u16) -> Option<Conten
     if code.same(from.get(cell)) {
         return None;
     }
-    Some(Content { cell, number: Number::of(kind, code) })
+    Some(Content {
+        cell,
+        number: Number::of(kind, code),
+    })
 }
 
 // Every cell that differs, in order.
@@ -65,9 +82,17 @@ fn changes(heap: Global, kind: KindName, from: &Cells, to: &Cells) -> Result<Vec
     Ok(all)
 }
 
-pub fn report<K: Kind>(heap: Global, kind: KindName, start: &Cells, machine: &Machine<K>) -> Result<Report, Error>
+pub fn report<K: Kind>(
+    heap: Global,
+    kind: KindName,
+    start: &Cells,
+    machine: &Machine<K>,
+) -> Result<Report, Error>
     ensures { λ r. ⌜ made r (λ p. tells p ≡ told kind (now (start .entry)) (where-stands (now (machine .entry)))) ⌝ }
 {
     let changes = changes(heap, kind, start, machine.cells())?;
-    Ok(Report { standing: standing(kind, machine.outcome()), changes })
+    Ok(Report {
+        standing: standing(kind, machine.outcome()),
+        changes,
+    })
 }

@@ -1,10 +1,16 @@
 // A session: what a script has chosen so far, and its lines one after another.
 use crate::bench::Bench;
-use crate::command::{Command, KindName, Work};
+use crate::command::Command;
+use crate::command::KindName;
+use crate::command::Work;
 use crate::error::Error;
 use crate::reply::Reply;
-use codes::count::{Count, CountKind};
-use codes::pressure::{Bar100, Bar100Kind, Bar20, Bar20Kind};
+use codes::count::Count;
+use codes::count::CountKind;
+use codes::pressure::Bar20;
+use codes::pressure::Bar20Kind;
+use codes::pressure::Bar100;
+use codes::pressure::Bar100Kind;
 use std::alloc::Global;
 use std::mem;
 

@@ -1,9 +1,12 @@
 // The words of a line, read one after another. Each reader says what it expected where it fails.
 ghost use Prim.Native.Nat.{_≤_};
 ghost use Rattle.std.specs.Vec.{made};
-use crate::error::{Error, ErrorFromRefused, Expected};
+use crate::error::Error;
+use crate::error::ErrorFromRefused;
+use crate::error::Expected;
 use crate::numbers::read_code;
-use codes::bounds::{Cell, Code};
+use codes::bounds::Cell;
+use codes::bounds::Code;
 use lir::bounds::Handle;
 use std::alloc::Global;
 use std::str::SplitWhitespace;
@@ -33,7 +36,9 @@ fn handle_in(word: &str) -> Result<Handle, Error> {
 
 impl<'a> Words<'a> {
     pub fn new(line: &'a str) -> Words<'a> {
-        Words { rest: line.split_whitespace() }
+        Words {
+            rest: line.split_whitespace(),
+        }
     }
 
     pub fn word(&mut self, expected: Expected) -> Result<&'a str, Error> {

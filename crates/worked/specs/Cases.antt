@@ -64,15 +64,15 @@ left-with n ps (ended cs) = false
 -- else the sum goes to cell 4
 abbrev pub pressing : List (Instruction Handle)
 pressing =
-  value (Imm (code 100)) ∷
-  value (Ld (cell 3)) ∷
-  value (Binary Mul (handle-of 1) (handle-of 0)) ∷
-  value (Ld (cell 3)) ∷
-  value (Binary Add (handle-of 3) (handle-of 2)) ∷
-  guard (record { test = Xge (code 250); on = handle-of 2; exit = exit 0; lives = One (handle-of 1) }) ∷
-  guard (record { test = Xge (code 300); on = handle-of 3; exit = exit 1; lives = Zero }) ∷
-  value (Binary Add (handle-of 2) (handle-of 3)) ∷
-  store (St (handle-of 5) (cell 4)) ∷ []
+    value (Imm (code 100)) ∷
+    value (Ld (cell 3)) ∷
+    value (Binary Mul (handle-of 1) (handle-of 0)) ∷
+    value (Ld (cell 3)) ∷
+    value (Binary Add (handle-of 3) (handle-of 2)) ∷
+    guard (record { test = Xge (code 250); on = handle-of 2; exit = exit 0; lives = One (handle-of 1) }) ∷
+    guard (record { test = Xge (code 300); on = handle-of 3; exit = exit 1; lives = Zero }) ∷
+    value (Binary Add (handle-of 2) (handle-of 3)) ∷
+    store (St (handle-of 5) (cell 4)) ∷ []
 
 -- the trace kept in a buffer, with its end, and run from a code in cell 3
 abbrev pub pressed : Code → Standing
@@ -80,11 +80,11 @@ pressed p = standing-from (pressure 100) (record { instructions = pressing; plac
 
 abbrev pub cases : List Bool
 cases =
-  is (count .sum (code 4294967295) (code 1)) (code 0) ∷
-  is (count .difference (code 0) (code 1)) (code 4294967295) ∷
-  is (count .product (code 65536) (code 65536)) (code 0) ∷
-  is (pressure 100 .product (code 150) (code 250)) (code 375) ∷
-  is (pressure 100 .product (minus 3) (code 50)) (minus 1) ∷
-  is (pressure 100 .sum (code 2147483647) (code 1)) (code 2147483647) ∷
-  ended-with (cell 4) (code 300) (pressed (code 150)) ∷
-  left-with 0 (code 260 ∷ []) (pressed (code 260)) ∷ []
+    is (count .sum (code 4294967295) (code 1)) (code 0) ∷
+    is (count .difference (code 0) (code 1)) (code 4294967295) ∷
+    is (count .product (code 65536) (code 65536)) (code 0) ∷
+    is (pressure 100 .product (code 150) (code 250)) (code 375) ∷
+    is (pressure 100 .product (minus 3) (code 50)) (minus 1) ∷
+    is (pressure 100 .sum (code 2147483647) (code 1)) (code 2147483647) ∷
+    ended-with (cell 4) (code 300) (pressed (code 150)) ∷
+    left-with 0 (code 260 ∷ []) (pressed (code 260)) ∷ []

@@ -39,8 +39,8 @@ module _ (k : Arithmetic) where
 
   coherent : (b : Kept) (s : Cells) → Fits k (values-in (b .instructions)) (standing-from k b s)
   coherent b s =
-    let e : 0 + values-in (b .instructions) ≡ values-in (b .instructions) = omega arith in
-    fits-if (values-in (b .instructions)) (b .over) (run index-of k (b .instructions) (going [] s))
+      let e : 0 + values-in (b .instructions) ≡ values-in (b .instructions) = omega arith in
+      fits-if (values-in (b .instructions)) (b .over) (run index-of k (b .instructions) (going [] s))
       (rw e at (fits-run k 0 (b .instructions) (going [] s) refl))
 
   -- where it has not ended, one more instruction is one more step of each run
@@ -54,23 +54,23 @@ module _ (k : Arithmetic) where
   open-still b i e = goes-on (b .over) ((Undefined, defined index-of (values-in (b .instructions)) i) ∷ []) e
 
   accepts : (b : Kept) (i : Instruction Handle) → buffer-sound b → refusal (buffer-meaning k b) (instruct i) ≡ None → 0 < b .places - length (b .instructions)
-    → Accepted k i (answer (buffer-meaning k b) (instruct i)) (buffer-meaning k b) (buffer-meaning k (after b (instruct i)))
+      → Accepted k i (answer (buffer-meaning k b) (instruct i)) (buffer-meaning k b) (buffer-meaning k (after b (instruct i)))
   accepts b (value i) d e room =
-    let l = length-push (b .instructions) (value i) in
-    let few = values-few (b .instructions) in
-    record {
-      admitted = e;
-      answered = inl (omega arith, values-push (b .instructions) (value i), λ s. further b (value i) s (open-still b (value i) e));
-      counted = omega arith;
-      spaced = inr (omega arith);
-      goes-on = refl;
-    }
+      let l = length-push (b .instructions) (value i) in
+      let few = values-few (b .instructions) in
+      record {
+        admitted = e;
+        answered = inl (omega arith, values-push (b .instructions) (value i), λ s. further b (value i) s (open-still b (value i) e));
+        counted = omega arith;
+        spaced = inr (omega arith);
+        goes-on = refl;
+      }
   accepts b (store i) d e room =
-    let l = length-push (b .instructions) (store i) in
-    record { admitted = e; answered = (values-push (b .instructions) (store i) ∙ omega arith, λ s. further b (store i) s (open-still b (store i) e)); counted = omega arith; spaced = inr (omega arith); goes-on = refl }
+      let l = length-push (b .instructions) (store i) in
+      record { admitted = e; answered = (values-push (b .instructions) (store i) ∙ omega arith, λ s. further b (store i) s (open-still b (store i) e)); counted = omega arith; spaced = inr (omega arith); goes-on = refl }
   accepts b (guard j) d e room =
-    let l = length-push (b .instructions) (guard j) in
-    record { admitted = e; answered = (values-push (b .instructions) (guard j) ∙ omega arith, λ s. further b (guard j) s (open-still b (guard j) e)); counted = omega arith; spaced = inr (omega arith); goes-on = refl }
+      let l = length-push (b .instructions) (guard j) in
+      record { admitted = e; answered = (values-push (b .instructions) (guard j) ∙ omega arith, λ s. further b (guard j) s (open-still b (guard j) e)); counted = omega arith; spaced = inr (omega arith); goes-on = refl }
 
   stays : (b : Kept) (i : Instruction Handle) → buffer-sound b → 0 < b .places - length (b .instructions) → buffer-sound (after b (instruct i))
   stays b i d room = let l = length-push (b .instructions) i in (omega arith, d .1)

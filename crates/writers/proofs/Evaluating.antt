@@ -19,7 +19,7 @@ use Rattle.writers.proofs.Footing.{Grounded, grounded-lawful}
 
 module _ (k : Arithmetic) where
   accepts : (e : Evaluation) (i : Instruction Handle) → eval-sound e → refusal (eval-meaning e) (instruct i) ≡ None → 0 < 1024 - e .handles
-    → Accepted k i (answer (eval-meaning e) (instruct i)) (eval-meaning e) (eval-meaning (after k e (instruct i)))
+      → Accepted k i (answer (eval-meaning e) (instruct i)) (eval-meaning e) (eval-meaning (after k e (instruct i)))
   accepts e (value i) d p room = record { admitted = p; answered = inl (omega arith, refl, λ s. refl); counted = refl; spaced = inr (omega arith); goes-on = refl }
   accepts e (store i) d p room = record { admitted = p; answered = (omega arith, λ s. refl); counted = refl; spaced = inl (omega arith); goes-on = refl }
   accepts e (guard j) d p room = record { admitted = p; answered = (omega arith, λ s. refl); counted = refl; spaced = inl (omega arith); goes-on = refl }

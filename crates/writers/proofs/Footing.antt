@@ -27,14 +27,14 @@ pub record Grounded {S : Type 0} (k : Arithmetic) (f : Foot S) (sound : S → Ty
   pub stays : (s : S) (i : Instruction Handle) → sound s → 0 < f .meaning s .space → sound (f .after s (instruct i))
   pub stays-ended : (s : S) → sound s → sound (f .after s end)
   pub accepts : (s : S) (i : Instruction Handle) → sound s → refusal (f .meaning s) (instruct i) ≡ None → 0 < f .meaning s .space
-    → Accepted k i (answer (f .meaning s) (instruct i)) (f .meaning s) (f .meaning (f .after s (instruct i)))
+      → Accepted k i (answer (f .meaning s) (instruct i)) (f .meaning s) (f .meaning (f .after s (instruct i)))
   pub finishes : (s : S) → refusal (f .meaning s) end ≡ None → Finished k (f .meaning s) (f .meaning (f .after s end))
 
 -- an instruction that passes meets no check of a writer, and there is space
 pub passes : (m : Meaning) (i : Instruction Handle) → foot-refusal m (instruct i) ≡ None → (refusal m (instruct i) ≡ None) × (0 < m .space)
 passes m i e =
-  let p = first-passes (refusal m (instruct i)) (failing ((NoSpace, ltb 0 (m .space)) ∷ [])) e in
-  (p .0, ltb-true 0 (m .space) (check-passes NoSpace (ltb 0 (m .space)) (p .1)))
+    let p = first-passes (refusal m (instruct i)) (failing ((NoSpace, ltb 0 (m .space)) ∷ [])) e in
+    (p .0, ltb-true 0 (m .space) (check-passes NoSpace (ltb 0 (m .space)) (p .1)))
 
 module _ {S : Type 0} (k : Arithmetic) (f : Foot S) (sound : S → Type 0) (g : Grounded k f sound) where
   abbrev tally : S → Tally
@@ -80,12 +80,16 @@ module _ {S : Type 0} (k : Arithmetic) (f : Foot S) (sound : S → Type 0) (g : 
 
   -- orders that are refused
   denied-means : (s : S) (o : Order) (r : Refusal) → foot-refusal (f .meaning s) o ≡ Some r → Meant s o (denial s r) s
-  denied-means s (instruct i) r e = (refl, elim (first-refuses (refusal (f .meaning s) (instruct i)) (failing ((NoSpace, ltb 0 (f .meaning s .space)) ∷ [])) r e) [
-      inl own ↦ inl (own, refl)
-    | inr full ↦
-        let c = check-refuses NoSpace r (ltb 0 (f .meaning s .space)) (full .1) in
-        let l = ltb-false 0 (f .meaning s .space) (c .0) in
-        inr (full .0, omega arith, ap (λ (q : Refusal). fault-of (f .part) (f .meaning s) q) (c .1)) ])
+  denied-means s (instruct i) r e = (
+    refl,
+    elim (first-refuses (refusal (f .meaning s) (instruct i)) (failing ((NoSpace, ltb 0 (f .meaning s .space)) ∷ [])) r e) [
+      | inl own ↦ inl (own, refl)
+      | inr full ↦
+          let c = check-refuses NoSpace r (ltb 0 (f .meaning s .space)) (full .1) in
+          let l = ltb-false 0 (f .meaning s .space) (c .0) in
+          inr (full .0, omega arith, ap (λ (q : Refusal). fault-of (f .part) (f .meaning s) q) (c .1))
+    ],
+  )
   denied-means s end r e = (refl, (e, refl))
 
   denied-counted : (s : S) (o : Order) (r : Refusal) → Counted s o (denial s r) s
@@ -94,9 +98,9 @@ module _ {S : Type 0} (k : Arithmetic) (f : Foot S) (sound : S → Type 0) (g : 
 
   -- what holds of every step, if it holds of both sorts
   decided : (P : S → Order → Answer → S → Type 0)
-    → ((s : S) (o : Order) → sound s → foot-refusal (f .meaning s) o ≡ None → P s o (answer (f .meaning s) o) (f .after s o))
-    → ((s : S) (o : Order) (r : Refusal) → sound s → foot-refusal (f .meaning s) o ≡ Some r → P s o (denial s r) s)
-    → (s s′ : S) (o : Order) (a : Answer) (v : Option Refusal) → foot-refusal (f .meaning s) o ≡ v → sound s → Decided f v s o a s′ → P s o a s′
+      → ((s : S) (o : Order) → sound s → foot-refusal (f .meaning s) o ≡ None → P s o (answer (f .meaning s) o) (f .after s o))
+      → ((s : S) (o : Order) (r : Refusal) → sound s → foot-refusal (f .meaning s) o ≡ Some r → P s o (denial s r) s)
+      → (s s′ : S) (o : Order) (a : Answer) (v : Option Refusal) → foot-refusal (f .meaning s) o ≡ v → sound s → Decided f v s o a s′ → P s o a s′
   decided P pass deny s s′ o a None e d st = subst (λ b. P s o b s′) (sym (st .0)) (subst (λ t. P s o (answer (f .meaning s) o) t) (sym (st .1)) (pass s o d e))
   decided P pass deny s s′ o a (Some r) e d st = subst (λ b. P s o b s′) (sym (st .0)) (subst (λ t. P s o (denial s r) t) (sym (st .1)) (deny s o r d e))
 
@@ -104,9 +108,9 @@ module _ {S : Type 0} (k : Arithmetic) (f : Foot S) (sound : S → Type 0) (g : 
   Every P = (s s′ : S) (o : Order) (a : Answer) → sound s → foot-steps f s o a s′ → P s o a s′
 
   every : (P : S → Order → Answer → S → Type 0)
-    → ((s : S) (o : Order) → sound s → foot-refusal (f .meaning s) o ≡ None → P s o (answer (f .meaning s) o) (f .after s o))
-    → ((s : S) (o : Order) (r : Refusal) → sound s → foot-refusal (f .meaning s) o ≡ Some r → P s o (denial s r) s)
-    → Every P
+      → ((s : S) (o : Order) → sound s → foot-refusal (f .meaning s) o ≡ None → P s o (answer (f .meaning s) o) (f .after s o))
+      → ((s : S) (o : Order) (r : Refusal) → sound s → foot-refusal (f .meaning s) o ≡ Some r → P s o (denial s r) s)
+      → Every P
   every P pass deny s s′ o a d st = decided P pass deny s s′ o a (foot-refusal (f .meaning s) o) refl d st
 
   always-means : Every Meant

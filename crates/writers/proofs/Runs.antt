@@ -32,10 +32,10 @@ module _ (k : Arithmetic) where
 
   -- the turns of a loop over the instructions: one more, and all of them
   pub run-more : (is : List (Instruction Handle)) (n : ℕ) (i : Instruction Handle) (t : Standing) → n < length is → i ≡ getD is n i
-    → effect index-of k i (run index-of k (take n is) t) ≡ run index-of k (take (n + 1) is) t
+      → effect index-of k i (run index-of k (take n is) t) ≡ run index-of k (take (n + 1) is) t
   run-more is n i t l e =
-    let more : take (n + 1) is ≡ take n is ++ i ∷ [] = take-more is n i l ∙ ap (λ (j : Instruction Handle). take n is ++ j ∷ []) (sym e) in
-    sym (ap (λ (js : List (Instruction Handle)). run index-of k js t) more ∙ run-push (take n is) i t)
+      let more : take (n + 1) is ≡ take n is ++ i ∷ [] = take-more is n i l ∙ ap (λ (j : Instruction Handle). take n is ++ j ∷ []) (sym e) in
+      sym (ap (λ (js : List (Instruction Handle)). run index-of k js t) more ∙ run-push (take n is) i t)
 
   pub run-all : (is : List (Instruction Handle)) (n : ℕ) (t : Standing) → length is ≤ n → run index-of k (take n is) t ≡ run index-of k is t
   run-all is n t l = ap (λ (js : List (Instruction Handle)). run index-of k js t) (take-all n is l)
@@ -58,8 +58,8 @@ module _ (k : Arithmetic) where
   pub fits-run : (n : ℕ) (is : List (Instruction Handle)) (t : Standing) → Fits n t → Fits (n + values-in is) (run index-of k is t)
   fits-run n [] t f = let e : n + 0 ≡ n = omega arith in rw e f
   fits-run n (i ∷ is) t f =
-    let e : n + (gives i + values-in is) ≡ (n + gives i) + values-in is = omega arith in
-    rw e (fits-run (n + gives i) is (effect index-of k i t) (fits-effect n i t f))
+      let e : n + (gives i + values-in is) ≡ (n + gives i) + values-in is = omega arith in
+      rw e (fits-run (n + gives i) is (effect index-of k i t) (fits-effect n i t f))
 
   pub fits-end : (n : ℕ) (t : Standing) → Fits n (finished t)
   fits-end n (going vs cs) = tt

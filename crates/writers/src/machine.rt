@@ -2,8 +2,8 @@
 ghost use Prim.Native.Nat.{_≤_};
 ghost use Rattle.std.specs.Of.Vec.{vec-len, vec-cap};
 use codes::bounds::Code;
-use lir::bounds::Exit;
 use codes::cells::Cells;
+use lir::bounds::Exit;
 use lir::instruction::Lives;
 use std::marker::PhantomData;
 

@@ -1,5 +1,6 @@
 // Tables of calls, each on a writer that has two values.
-use crate::{Call, Sort};
+use crate::Call;
+use crate::Sort;
 
 // Every listed op, at the largest cell, exit and number of lives.
 pub const LISTED: [Call; 16] = [

@@ -7,10 +7,9 @@ use lir::instruction::Value;
 use lir::writer::Writer;
 
 pub mod calls;
-pub mod traces;
-
 #[cfg(test)]
 mod tests;
+pub mod traces;
 
 // The sort of a call.
 #[derive(Clone, Copy)]
@@ -23,11 +22,27 @@ pub enum Sort {
 // A call by its sort, op, operands a and b, cell, exit and number of lives (each the first value), and the number of the
 // refusal that it gets: 0 where it is accepted.
 #[derive(Clone, Copy)]
-pub struct Call(pub Sort, pub u8, pub u16, pub u16, pub u16, pub u16, pub usize, pub u8);
+pub struct Call(
+    pub Sort,
+    pub u8,
+    pub u16,
+    pub u16,
+    pub u16,
+    pub u16,
+    pub usize,
+    pub u8,
+);
 
 fn fields(call: Call) -> Fields<Handle> {
     let Call(_, op, a, b, cell, exit, _, _) = call;
-    Fields { op, a: Handle::nth(a), b: Handle::nth(b), cell, code: Code::new(5), exit }
+    Fields {
+        op,
+        a: Handle::nth(a),
+        b: Handle::nth(b),
+        cell,
+        code: Code::new(5),
+        exit,
+    }
 }
 
 // The fault that a call gets, if any.

@@ -1,12 +1,19 @@
 // The same calls on a buffer and on an evaluator.
-use crate::{Call, fault_of, number_of};
-use codes::bounds::{Cell, Code};
+use crate::Call;
+use crate::fault_of;
+use crate::number_of;
+use codes::bounds::Cell;
+use codes::bounds::Code;
 use codes::cells::Cells;
 use codes::kind::Kind;
-use lir::bounds::{Exit, Handle};
-use lir::instruction::{Guard, Lives, Test};
+use lir::bounds::Exit;
+use lir::bounds::Handle;
+use lir::instruction::Guard;
+use lir::instruction::Lives;
+use lir::instruction::Test;
 use lir::writer::Writer;
-use writers::machine::{Machine, Outcome};
+use writers::machine::Machine;
+use writers::machine::Outcome;
 
 // The number of calls of a table that did not get the refusal that they should.
 pub fn surprises<W: Writer>(w: &mut W, calls: &[Call]) -> usize {
@@ -33,7 +40,12 @@ pub fn start_with(n: u32, code: u32) -> Cells {
 
 // A guard with one live.
 pub fn guard_on(on: Handle, test: Test, exit: u16, live: Handle) -> Guard<Handle> {
-    Guard { test, on, exit: Exit { label: exit % 256 }, lives: Lives::One(live) }
+    Guard {
+        test,
+        on,
+        exit: Exit { label: exit % 256 },
+        lives: Lives::One(live),
+    }
 }
 
 // The first of some lives, if it is the only one.

@@ -2,7 +2,8 @@
 ghost use mathlib.Core.Path.{_≡_};
 ghost use Rattle.codes.specs.Contents.{blank, code-in, written};
 use super::Cells;
-use crate::bounds::{Cell, Code};
+use crate::bounds::Cell;
+use crate::bounds::Code;
 
 impl Cells {
     // All cells at 0.

@@ -6,8 +6,12 @@ ghost use Rattle.writers.specs.Buffers.{buffers, viewed, empty};
 use super::Buffer;
 use codes::kind::Kind;
 use lir::bounds::Handle;
-use lir::fault::{BUFFER_PART, Fault};
-use lir::instruction::{Guard, Instruction, Store, Value};
+use lir::fault::BUFFER_PART;
+use lir::fault::Fault;
+use lir::instruction::Guard;
+use lir::instruction::Instruction;
+use lir::instruction::Store;
+use lir::instruction::Value;
 use lir::names::HANDLES;
 use lir::writer::Writer;
 use std::alloc::AllocError;
@@ -22,7 +26,13 @@ impl<K: Kind> Buffer<K> {
     {
         let places = places.min(HANDLES);
         let kept = Vec::with_capacity(heap, places as usize)?;
-        Ok(Buffer { kind: PhantomData, kept, places, handles: 0, over: false })
+        Ok(Buffer {
+            kind: PhantomData,
+            kept,
+            places,
+            handles: 0,
+            over: false,
+        })
     }
 }
 

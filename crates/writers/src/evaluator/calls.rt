@@ -7,8 +7,12 @@ use crate::machine::Machine;
 use codes::cells::Cells;
 use codes::kind::Kind;
 use lir::bounds::Handle;
-use lir::fault::{EVALUATOR_PART, Fault};
-use lir::instruction::{Guard, Instruction, Store, Value};
+use lir::fault::EVALUATOR_PART;
+use lir::fault::Fault;
+use lir::instruction::Guard;
+use lir::instruction::Instruction;
+use lir::instruction::Store;
+use lir::instruction::Value;
 use lir::names::HANDLES;
 use lir::writer::Writer;
 use std::alloc::AllocError;
@@ -21,7 +25,12 @@ impl<K: Kind> Evaluator<K> {
         ensures sound { λ r. ⌜ made r (λ e. evaluates (K·Kind .arithmetic) .sound e) ⌝ }
     {
         let machine = Machine::new(heap, start)?;
-        Ok(Evaluator { machine, handles: 0, taken: 0, over: false })
+        Ok(Evaluator {
+            machine,
+            handles: 0,
+            taken: 0,
+            over: false,
+        })
     }
 
     // The run, as far as it has come.

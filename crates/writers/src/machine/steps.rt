@@ -9,13 +9,20 @@ ghost use Rattle.lir.specs.Instructions.{going, value-of, value-at, stored, eff
 ghost use Rattle.lir.specs.Writers.{index-of};
 ghost use Rattle.writers.specs.declared.machine.Outcome.the-variants.{Going};
 ghost use Rattle.writers.specs.Machines.{standing-of, stands, each-live};
-use super::{Machine, Outcome};
-use lir::apply::{apply, leaves};
-use codes::bounds::{Cell, Code};
-use lir::bounds::Handle;
+use super::Machine;
+use super::Outcome;
+use codes::bounds::Cell;
+use codes::bounds::Code;
 use codes::cells::Cells;
-use lir::instruction::{Guard, Instruction, Lives, Store, Value};
 use codes::kind::Kind;
+use lir::apply::apply;
+use lir::apply::leaves;
+use lir::bounds::Handle;
+use lir::instruction::Guard;
+use lir::instruction::Instruction;
+use lir::instruction::Lives;
+use lir::instruction::Store;
+use lir::instruction::Value;
 use lir::names::HANDLES;
 use std::alloc::AllocError;
 use std::alloc::Global;
@@ -26,7 +33,12 @@ impl<K: Kind> Machine<K> {
         ensures { λ r. ⌜ made r (λ m. stands m ≡ going [] (now (start .entry))) ⌝ }
     {
         let values = Vec::with_capacity(heap, HANDLES as usize)?;
-        Ok(Machine { kind: PhantomData, values, cells: *start, outcome: Outcome::Going })
+        Ok(Machine {
+            kind: PhantomData,
+            values,
+            cells: *start,
+            outcome: Outcome::Going,
+        })
     }
 
     // How the run goes.
@@ -64,7 +76,11 @@ impl<K: Kind> Machine<K> {
         ensures { λ r. ⌜ r ≡ value-at index-of (vec-items (now (self .entry) .values)) h ⌝ }
     {
         let at = h.index as usize;
-        if at < self.values.len() { self.values[at] } else { Code::new(0) }
+        if at < self.values.len() {
+            self.values[at]
+        } else {
+            Code::new(0)
+        }
     }
 
     fn value_of(&self, i: Value<Handle>) -> Code
@@ -85,8 +101,17 @@ impl<K: Kind> Machine<K> {
             Lives::Zero => Lives::Zero,
             Lives::One(p) => Lives::One(self.value_at(p)),
             Lives::Two(p, q) => Lives::Two(self.value_at(p), self.value_at(q)),
-            Lives::Three(p, q, s) => Lives::Three(self.value_at(p), self.value_at(q), self.value_at(s)),
-            Lives::Four(p, q, s, t) => Lives::Four(self.value_at(p), self.value_at(q), self.value_at(s), self.value_at(t)),
+            Lives::Three(p, q, s) => Lives::Three(
+                self.value_at(p),
+                self.value_at(q),
+                self.value_at(s),
+            ),
+            Lives::Four(p, q, s, t) => Lives::Four(
+                self.value_at(p),
+                self.value_at(q),
+                self.value_at(s),
+                self.value_at(t),
+            ),
         }
     }
 

@@ -20,11 +20,12 @@ loop-i-again g c =
     let items = vec-items (c .args .self .now .kept) in
     let same : c .deref-i-items .result .now ≡ items = c .deref-i-items .ensures .value in
     let item : c .i-item .result ≡ getD items (c .loop-i .i-index) (c .i-item .result) = c .i-item .is ∙ ap (λ (is : List (Instruction Handle)). getD is (c .loop-i .i-index) (c .i-item .result)) same in
-    let within : c .loop-i .i-index < length items = omega (arith, c .loop-i-test .taken, ap (λ (is : List (Instruction Handle)). length is) same) in
-    (c .step .ensures .stands
-      ∙ ap (λ (t : Standing). effect index-of (g .K·Kind .arithmetic) (c .i-item .result) t) (c .loop-i .inv .0)
-      ∙ run-more (g .K·Kind .arithmetic) items (c .loop-i .i-index) (c .i-item .result) (going [] (c .args .start .now)) within item,
-     omega (arith, c .step .ensures .grows, c .loop-i .inv .1, gives-one (c .i-item .result)))
+    let within : c .loop-i .i-index < length items = omega (arith, c .loop-i-test .taken, ap (λ (is : List (Instruction Handle)). length is) same) in (
+      c .step .ensures .stands
+          ∙ ap (λ (t : Standing). effect index-of (g .K·Kind .arithmetic) (c .i-item .result) t) (c .loop-i .inv .0)
+          ∙ run-more (g .K·Kind .arithmetic) items (c .loop-i .i-index) (c .i-item .result) (going [] (c .args .start .now)) within item,
+      omega (arith, c .step .ensures .grows, c .loop-i .inv .1, gives-one (c .i-item .result)),
+    )
 
 pub returns-then-self : need.returns-then-self
 returns-then-self g c =
