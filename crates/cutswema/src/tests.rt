@@ -1,5 +1,5 @@
 // Lines that end a script, each with what was expected there.
-use script::command::KindName;
+use bench::command::KindName;
 use script::error::Error;
 use script::error::ErrorDebug;
 use script::error::ErrorPartialEq;

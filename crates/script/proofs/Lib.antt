@@ -1,4 +1,0 @@
-mod Named
-mod Taken
-mod Changed
-mod Called

@@ -1,5 +1,0 @@
-pub mod Names
-pub mod Numbers
-pub mod Meanings
-pub mod Reports
-pub mod Benches

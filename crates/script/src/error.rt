@@ -45,6 +45,15 @@ pub impl<T: Drop> From<Refused<T>> for Error as ErrorFromRefused {
     }
 }
 
+pub impl From<bench::error::Error> for Error as ErrorFromBench {
+    fn from(e: bench::error::Error) -> Error {
+        match e {
+            bench::error::Error::Memory => Error::Memory,
+            bench::error::Error::NoFoot => Error::NoFoot,
+        }
+    }
+}
+
 pub impl fmt::Display for Expected as ExpectedDisplay {
     fn fmt<W: fmt::Write>(&self, f: &mut fmt::Formatter<W>) -> fmt::Result {
         let text = match self {

@@ -1,20 +1,20 @@
 // Lines of text to commands.
 ghost use mathlib.Core.Path.{_≡_};
 ghost use Rattle.std.specs.Vec.{made};
-ghost use Rattle.script.specs.Meanings.{Intended};
-ghost use Rattle.script.specs.Names.{number};
-use crate::command::Call;
+ghost use Rattle.bench.specs.Meanings.{Intended};
+ghost use Rattle.bench.specs.Names.{number};
 use crate::command::Command;
-use crate::command::FootSpec;
-use crate::command::KindName;
 use crate::command::Work;
 use crate::error::Error;
 use crate::error::ErrorFromAlloc;
 use crate::error::Expected;
-use crate::fields::blank;
-use crate::mnemonic::Mnemonic;
-use crate::mnemonic::Sort;
 use crate::words::Words;
+use bench::command::Call;
+use bench::command::FootSpec;
+use bench::command::KindName;
+use bench::fields::blank;
+use bench::mnemonic::Mnemonic;
+use bench::mnemonic::Sort;
 use codes::bounds::Code;
 use lir::bounds::Handle;
 use lir::call::Fields;

@@ -1,12 +1,14 @@
 // A session: what a script has chosen so far, and its lines one after another.
-use crate::bench::Bench;
 use crate::command::Command;
-use crate::command::KindName;
 use crate::command::Work;
 use crate::error::Error;
+use crate::error::ErrorFromBench;
 use crate::reply::Reply;
+use bench::bench::Bench;
+use bench::command::KindName;
 use codes::count::Count;
 use codes::count::CountKind;
+use codes::kind::Kind;
 use codes::pressure::Bar20;
 use codes::pressure::Bar20Kind;
 use codes::pressure::Bar100;
@@ -23,6 +25,17 @@ pub enum Session {
     Bar100(Bench<Bar100>),
 }
 
+// What is done on a bench, whatever its kind.
+fn work_on<K: Kind>(bench: &mut Bench<K>, heap: Global, work: &Work) -> Result<Reply, Error> {
+    match work {
+        Work::Cell(cell, code) => Ok(Reply::Cell(bench.set(*cell, *code))),
+        Work::Foot(spec) => Ok(Reply::Foot(bench.choose(heap, *spec)?)),
+        Work::Call(call) => Ok(Reply::Call(bench.call(call)?)),
+        Work::Run => Ok(Reply::Run(bench.run(heap)?)),
+        Work::Ask => Ok(Reply::Ask(bench.ask()?)),
+    }
+}
+
 impl Session {
     pub fn of(kind: KindName) -> Session {
         match kind {
@@ -37,17 +50,17 @@ impl Session {
         match mem::replace(self, Session::Fresh) {
             Session::Fresh => Err(Error::NoKind),
             Session::Count(mut bench) => {
-                let reply = bench.work(heap, work);
+                let reply = work_on(&mut bench, heap, work);
                 *self = Session::Count(bench);
                 reply
             }
             Session::Bar20(mut bench) => {
-                let reply = bench.work(heap, work);
+                let reply = work_on(&mut bench, heap, work);
                 *self = Session::Bar20(bench);
                 reply
             }
             Session::Bar100(mut bench) => {
-                let reply = bench.work(heap, work);
+                let reply = work_on(&mut bench, heap, work);
                 *self = Session::Bar100(bench);
                 reply
             }

@@ -1,0 +1,4 @@
+pub mod Named
+mod Taken
+mod Changed
+mod Called

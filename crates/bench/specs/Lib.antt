@@ -1,0 +1,5 @@
+pub mod Names
+pub mod Numbers
+pub mod Meanings
+pub mod Reports
+pub mod Benches
