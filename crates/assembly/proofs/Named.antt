@@ -1,13 +1,13 @@
 -- A call that has the number of a name, and is of the name's sort, means the name's instruction.
 use Rattle.std.proofs.Common.{◌≡◌, ℕ, List, [], Some, None, Option, refl, ap, ◌∙◌}
-use Rattle.calls.specs.Calls.{meant, also, found, table, a_value, a_store, a_guard, value_call, store_call, guard_call, guard_by}
+use Rattle.raw_calls.specs.Calls.{meant, also, found, table, a_value, a_store, a_guard, value_call, store_call, guard_call, guard_by}
 use Rattle.codes.specs.Bounds.{cell_at}
 use Rattle.lir.specs.Instructions.{lives_of}
 use Rattle.lir.specs.Limits.{exit_at}
 use Rattle.codes.specs.declared.bounds.Cell.{Cell}
 use Rattle.lir.specs.declared.bounds.Exit.{Exit}
 use Rattle.lir.specs.declared.bounds.Handle.{Handle}
-use Rattle.calls.specs.declared.fields.Fields.{Fields}
+use Rattle.raw_calls.specs.declared.fields.Fields.{Fields}
 use Rattle.lir.specs.declared.instruction.Instruction.{Instruction}
 use Rattle.lir.specs.declared.instruction.Instruction.TheVariants.{Value as value, Store as store, Guard as guard}
 use Rattle.lir.specs.declared.instruction.Lives.{Lives}

@@ -1,7 +1,7 @@
 -- What a call by name is to mean.
 use Rattle.std.specs.Prelude.{◌≡◌, List, [], Some, vec_items, Option}
-use Rattle.calls.specs.Calls.{meant, guard_by, value_call, store_call, guard_call}
-use Rattle.calls.specs.declared.fields.Fields.{Fields}
+use Rattle.raw_calls.specs.Calls.{meant, guard_by, value_call, store_call, guard_call}
+use Rattle.raw_calls.specs.declared.fields.Fields.{Fields}
 use Rattle.codes.specs.Bounds.{cell_at}
 use Rattle.lir.specs.declared.bounds.Handle.{Handle}
 use Rattle.lir.specs.declared.instruction.Instruction.{Instruction}

@@ -3,7 +3,7 @@ use Rattle.std.specs.Prelude.{◌≡◌, ℕ, List, Some, None, codes, Option, �
 use Rattle.codes.specs.Codes.{nought}
 use Rattle.lir.specs.Limits.{handle_of}
 use Rattle.lir.specs.declared.bounds.Handle.{Handle}
-use Rattle.calls.specs.declared.fields.Fields.{Fields}
+use Rattle.raw_calls.specs.declared.fields.Fields.{Fields}
 use Rattle.lir.specs.declared.instruction.Op.{Op}
 use Rattle.lir.specs.declared.instruction.Op.TheVariants.{Add, Sub, Mul, And, Or, Xor, Eq, Lt}
 use Rattle.assembly.specs.declared.mnemonic.Mnemonic.{Mnemonic}

@@ -1,5 +1,5 @@
 // Calls as they are written.
-use calls::fields::Fields;
+use raw_calls::fields::Fields;
 use lir::bounds::Handle;
 
 // A call on a writer, in its raw form, so that any numbers can be handed in. A guard takes any count of lives:

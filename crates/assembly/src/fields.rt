@@ -3,7 +3,7 @@ ghost use Rattle.std.specs.Prelude.{◌≡◌};
 ghost use Rattle.assembly.specs.Names.{blank};
 
 use crate::mnemonic::Mnemonic;
-use calls::fields::Fields;
+use raw_calls::fields::Fields;
 use codes::bounds::Code;
 use lir::bounds::Handle;
 

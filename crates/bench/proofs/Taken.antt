@@ -1,11 +1,11 @@
 -- The step of a writer's raw call is the step of the line's call.
 use Rattle.std.proofs.Common.{◌≡◌, List, vec_items, Vec, sym, subst}
 use Rattle.std.specs.declared.alloc.Global.{Global}
-use Rattle.calls.specs.Calls.{meant, value_call, store_call, guard_call}
+use Rattle.raw_calls.specs.Calls.{meant, value_call, store_call, guard_call}
 use Rattle.protocol.specs.Meanings.{Answer}
 use Rattle.protocol.specs.Writers.{Writes, ByNumbers}
 use Rattle.lir.specs.declared.bounds.Handle.{Handle}
-use Rattle.calls.specs.declared.fields.Fields.{Fields}
+use Rattle.raw_calls.specs.declared.fields.Fields.{Fields}
 use Rattle.lir.specs.declared.instruction.Instruction.{Instruction}
 use Rattle.lir.specs.declared.instruction.Instruction.TheVariants.{Value as value, Store as store, Guard as guard}
 use Rattle.assembly.specs.declared.call.Call.{Call}

@@ -1,6 +1,6 @@
 -- What the calls of a script mean to a writer.
 use Rattle.std.specs.Prelude.{vec_items}
-use Rattle.calls.specs.Calls.{meant, value_call, store_call, guard_call}
+use Rattle.raw_calls.specs.Calls.{meant, value_call, store_call, guard_call}
 use Rattle.protocol.specs.Meanings.{Answer, handle, done, refused, end, Meaning}
 use Rattle.protocol.specs.Writers.{Writes, ByNumbers}
 use Rattle.lir.specs.declared.instruction.Instruction.TheVariants.{Value as value, Store as store, Guard as guard}

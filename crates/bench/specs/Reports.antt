@@ -1,7 +1,7 @@
 -- What is reported of a run.
 use Rattle.std.specs.Prelude.{◌≡◌, ℕ, zero, suc, cond, List, [], ◌++◌, map, Some, None, vec_items, Option}
 use Rattle.std.specs.Option.{option_to_list}
-use Rattle.calls.specs.Calls.{also}
+use Rattle.raw_calls.specs.Calls.{also}
 use Rattle.codes.specs.Codes.{same}
 use Rattle.codes.specs.Contents.{code_in}
 use Rattle.codes.specs.Bounds.{cell_at}

@@ -1,4 +1,6 @@
 // A bench: a start, a writer at the foot, calls on it, and reports of its runs.
+#![tactic(auto)]
+
 pub mod answer;
 pub mod bench;
 pub mod calls;

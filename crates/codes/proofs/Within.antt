@@ -1,5 +1,5 @@
 -- What is made of a number within a bound is the same by whatever proof of the bound.
-use Rattle.std.proofs.Common.{◌≡◌, ℕ, ◌<◌, Bool, true, false, ltb, Some, None, Option, refl, ap, arith, ltb-true, lt-ltb}
+use Rattle.std.proofs.Common.{◌≡◌, ℕ, ◌<◌, Bool, true, false, ltb, Some, refl, ap, arith, ltb-true, lt-ltb}
 use native.Mathlib.Bridge.{le_prop}
 use Rattle.codes.specs.Bounds.{within_if, within}
 

@@ -1,5 +1,5 @@
 -- The contents of the cells: the code in one, and what they are after a store.
-use Rattle.std.specs.Prelude.{◌≡◌, ℕ, length, replicate, slice_index_or, slice_set}
+use Rattle.std.specs.Prelude.{replicate, slice_index_or, slice_set}
 use Rattle.std.proofs.Common.{◌∙◌, length-set}
 use Rattle.std.proofs.lemmas.List.{length-replicate}
 use Rattle.codes.specs.declared.bounds.Code.{Code}

@@ -1,6 +1,6 @@
 -- Counts keep the laws of a kind.
-use Rattle.std.specs.Prelude.{◌≡◌, ℕ, ◌%◌, ◌^◌, ◌≢◌}
-use Rattle.std.proofs.Common.{ap, arith, add_comm, mul_comm, mul-one, mul-zero}
+use Rattle.std.specs.Prelude.{ℕ, ◌%◌, ◌^◌, ◌≢◌}
+use Rattle.std.proofs.Common.{ap, arith, add_comm, mul_comm}
 use Rattle.std.proofs.lemmas.Bool.Decides.{nat_tests}
 use Rattle.codes.specs.Codes.{code, nought}
 use Rattle.codes.specs.Kinds.{Laws}

@@ -1,12 +1,12 @@
 -- Pressures keep the laws of a kind at every number of steps to the bar, and a product of two fits 64 bits on the way.
-use Rattle.std.specs.Prelude.{◌≡◌, ℕ, zero, suc, ◌*◌, ◌/◌, ◌%◌, ◌^◌, ◌<◌, ℤ, pos, negsuc, ◌+ℤ◌, ◌-ℤ◌, ◌*ℤ◌, neg_ℤ, FitsSigned, ◌≢◌, int_div, refl}
+use Rattle.std.specs.Prelude.{◌≡◌, ℕ, zero, suc, ◌*◌, ◌/◌, ◌%◌, ◌^◌, ◌<◌, ℤ, pos, negsuc, ◌*ℤ◌, neg_ℤ, FitsSigned, ◌≢◌, int_div, refl}
 use Rattle.std.proofs.Common.{sym, ap, ◌∙◌, mul-div_cancel, div-le_self, arith, of_z}
 use Rattle.std.proofs.Math.Nat.{zero-div}
 use borrow.Author.Differences.{up, down}
 use borrow.Author.Numbers.{signed_product}
 use Rattle.std.proofs.Math.IntN.{+ℤ_comm, +ℤ_idr, +ℤ_invr, *ℤ_comm, *ℤ-zero}
 use Rattle.std.proofs.lemmas.Int.{ints, of_z-to_z, to_z-of_z, to_z_pos}
-use Rattle.std.specs.Int.{saturate_to_bits, w32, w64}
+use Rattle.std.specs.Int.{w32, w64}
 use Rattle.codes.specs.declared.bounds.Code.{Code}
 use Rattle.codes.specs.Codes.{code}
 use Rattle.codes.specs.Kinds.{Laws}

@@ -1,4 +1,6 @@
 // Runs a script, from the file named as the argument or from standard input, and prints each line's answer.
+#![tactic(auto)]
+
 use anyhow::anyhow;
 use script::session::Session;
 use std::{env, fs, io};

@@ -1,4 +1,6 @@
 // Tests of the three kinds against a table.
+#![tactic(auto)]
+
 use codes::bounds::Code;
 use codes::count::Count;
 use codes::kind::Kind;

@@ -1,5 +1,5 @@
 -- The instructions: what each computes, when a guard leaves, and which values it names. N is what an operand is named by.
-use Rattle.std.specs.Prelude.{ℕ, ◌+◌, Bool, true, false, cond, not, ◌&&◌, List, [], ◌∷◌, Some, None, Option, bit_and, bit_or, bit_xor, nat_lt}
+use Rattle.std.specs.Prelude.{ℕ, ◌+◌, Bool, true, cond, not, ◌&&◌, List, [], ◌∷◌, Some, None, Option, bit_and, bit_or, bit_xor, nat_lt}
 use Rattle.codes.specs.Kinds.{Arithmetic}
 use Rattle.codes.specs.Codes.{code, nought, same}
 use Rattle.codes.specs.declared.bounds.Code.{Code}

@@ -1,4 +1,6 @@
 // The trace language: its instructions, what names their operands, what they compute, and the faults.
+#![tactic(auto)]
+
 pub mod apply;
 pub mod bounds;
 pub mod defined;

@@ -1,4 +1,6 @@
 // A machine runs one trace, instruction by instruction.
+#![tactic(auto)]
+
 ghost use Rattle.std.specs.Prelude.{◌≤◌, vec_len, vec_capacity};
 
 use codes::bounds::Code;

@@ -1,6 +1,5 @@
 -- What a pile has counted: what its foot has taken, and what each layer has saved.
 use Rattle.std.specs.Prelude.{◌≡◌, ℕ, ◌+◌, ◌%◌, ◌^◌, ◌<◌, List, [], ◌∷◌, length, Some, None, Option, slice_index, slice_set}
-use Rattle.lir.specs.Refusals.{first}
 use Rattle.lir.specs.declared.fault.Fault.{Fault}
 use Rattle.lir.specs.declared.fault.Refusal.TheVariants.{NoSpace}
 use Rattle.protocol.specs.Meanings.{Order, instruct, end, Answer, handle, done, refused}

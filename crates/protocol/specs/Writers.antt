@@ -6,7 +6,7 @@ use Rattle.lir.specs.declared.bounds.Handle.{Handle}
 use Rattle.lir.specs.declared.fault.Fault.{Fault}
 use Rattle.lir.specs.declared.fault.Refusal.{Refusal}
 use Rattle.lir.specs.declared.fault.Refusal.TheVariants.{Malformed, Ended}
-use Rattle.protocol.specs.Meanings.{Meaning, Order, instruct, end, Answer, refused, Coherent, refusal, fault_of, Means}
+use Rattle.protocol.specs.Meanings.{Meaning, Order, instruct, end, Answer, refused, Coherent, fault_of, Means}
 use Rattle.protocol.specs.Tallies.{Tally, Credits, total, full_at}
 
 -- what is said of a type of writers

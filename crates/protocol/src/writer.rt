@@ -1,12 +1,12 @@
 // What it takes to be a writer: something that takes the instructions of a trace one after another.
 ghost use Rattle.std.specs.Prelude.{◌≡◌};
 ghost use Rattle.lir.specs.declared.instruction.Instruction.TheVariants.{Value as value, Store as store, Guard as guard};
-ghost use Rattle.calls.specs.Calls.{meant, value_call, store_call, guard_call};
+ghost use Rattle.raw_calls.specs.Calls.{meant, value_call, store_call, guard_call};
 ghost use Rattle.protocol.specs.Meanings.{instruct, end, handled, settled, refusal, foot_refusal};
 ghost use Rattle.protocol.specs.Writers.{Writes, Lawful, own_fault, judgement, Judged, malformed, ByNumbers};
 
-use calls::fields::Fields;
-use calls::read::{read_guard, read_store, read_value};
+use raw_calls::fields::Fields;
+use raw_calls::read::{read_guard, read_store, read_value};
 use codes::kind::Kind;
 use lir::bounds::Handle;
 use lir::defined::defined;

@@ -11,7 +11,7 @@ use assembly::fields::blank;
 use assembly::kinds::KindName;
 use assembly::mnemonic::{Mnemonic, Sort};
 use bench::command::FootSpec;
-use calls::fields::Fields;
+use raw_calls::fields::Fields;
 use codes::bounds::Code;
 use lir::bounds::Handle;
 use std::alloc::Global;

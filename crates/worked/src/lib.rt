@@ -1,4 +1,6 @@
 // Worked cases from the press, as one list with one result about the definitions that the contracts use.
+#![tactic(auto)]
+
 ghost use Rattle.std.specs.Prelude.{◌≡◌};
 ghost use Rattle.worked.specs.Cases.{cases, every};
 

@@ -1,3 +1,5 @@
 // The writers at the foot of a pile: one keeps the trace, the other runs it as it arrives.
+#![tactic(auto)]
+
 pub mod buffer;
 pub mod evaluator;

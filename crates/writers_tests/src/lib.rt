@@ -1,5 +1,7 @@
 // Tests of the two writers at the foot: what each call answers at the edges of what it takes.
-use calls::fields::Fields;
+#![tactic(auto)]
+
+use raw_calls::fields::Fields;
 use codes::bounds::Code;
 use lir::bounds::Handle;
 use lir::fault::Fault;

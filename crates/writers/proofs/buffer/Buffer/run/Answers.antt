@@ -15,8 +15,8 @@ loop-i-preserved g c =
     let room : held c.loop-i.machine < 1024 = omega (arith, c.args.self.now.few, c.args.self.now.within, c.deref-i-items.ensures.len, c.loop-i.invariant.1, c.loop-i-test.true) in
     let within : c.loop-i.i-index < length items = omega (arith, c.loop-i-test.true, ap (λ (is : List (Instruction Handle)). length is) same) in (
       c.step.ensures.usual room
-          ∙ ap (λ (t : Standing). effect index_of g.row.K-Kind.arithmetic c.i-item.result t) c.loop-i.invariant.0
-          ∙ run_more g.row.K-Kind.arithmetic items c.loop-i.i-index c.i-item.result (going [] c.args.start.now) within item,
+          ∙ ap (λ (t : Standing). effect index_of g.K.Kind.arithmetic c.i-item.result t) c.loop-i.invariant.0
+          ∙ run_more g.K.Kind.arithmetic items c.loop-i.i-index c.i-item.result (going [] c.args.start.now) within item,
       omega (arith, c.step.ensures.grows, c.loop-i.invariant.1, gives_one c.i-item.result),
     )
 
@@ -24,10 +24,10 @@ pub returns-then-self : goal.returns-then-self
 returns-then-self g c =
     let items = vec_items c.args.self.now.kept in
     let all : length items ≤ c.loop-i.i-index = omega (arith, c.loop-i-test.false, ap (λ (is : List (Instruction Handle)). length is) c.deref-i-items.ensures.value) in
-    simp c.if-self.true (c.end.ensures.stands ∙ ap finished (c.loop-i.invariant.0 ∙ run_all g.row.K-Kind.arithmetic items c.loop-i.i-index (going [] c.args.start.now) all))
+    simp c.if-self.true (c.end.ensures.stands ∙ ap finished (c.loop-i.invariant.0 ∙ run_all g.K.Kind.arithmetic items c.loop-i.i-index (going [] c.args.start.now) all))
 
 pub returns-else-self : goal.returns-else-self
 returns-else-self g c =
     let items = vec_items c.args.self.now.kept in
     let all : length items ≤ c.loop-i.i-index = omega (arith, c.loop-i-test.false, ap (λ (is : List (Instruction Handle)). length is) c.deref-i-items.ensures.value) in
-    simp c.if-self.false (c.loop-i.invariant.0 ∙ run_all g.row.K-Kind.arithmetic items c.loop-i.i-index (going [] c.args.start.now) all)
+    simp c.if-self.false (c.loop-i.invariant.0 ∙ run_all g.K.Kind.arithmetic items c.loop-i.i-index (going [] c.args.start.now) all)

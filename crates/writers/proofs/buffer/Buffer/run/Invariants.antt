@@ -6,4 +6,4 @@ use Rattle.writers.proofs.buffer.Buffer.run.Given as goal
 
 -- the machine has run as many as were seen
 abbrev pub invariant-loop-i : goal.invariant-loop-i
-invariant-loop-i g l = (stands l.machine ≡ run index_of g.row.K-Kind.arithmetic (take l.i-index (vec_items l.self.kept)) (going [] l.start)) × (held l.machine ≤ l.i-index)
+invariant-loop-i g l = (stands l.machine ≡ run index_of g.K.Kind.arithmetic (take l.i-index (vec_items l.self.kept)) (going [] l.start)) × (held l.machine ≤ l.i-index)

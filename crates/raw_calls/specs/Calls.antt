@@ -5,7 +5,7 @@ use Rattle.lir.specs.Limits.{exit_at}
 use Rattle.lir.specs.Instructions.{lives_of}
 use Rattle.lir.specs.declared.instruction.Instruction.{Instruction}
 use Rattle.lir.specs.declared.instruction.Instruction.TheVariants.{Value as value, Store as store, Guard as guard}
-use Rattle.calls.specs.declared.fields.Fields.{Fields}
+use Rattle.raw_calls.specs.declared.fields.Fields.{Fields}
 use Rattle.lir.specs.declared.instruction.Op.TheVariants.{Add, Sub, Mul, And, Or, Xor, Eq, Lt}
 use Rattle.lir.specs.declared.instruction.Value.{Value}
 use Rattle.lir.specs.declared.instruction.Value.TheVariants.{Imm, Binary, Ld, Ldx}

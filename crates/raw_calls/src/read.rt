@@ -1,6 +1,6 @@
 // The instruction that the numbers of a call mean.
 ghost use Rattle.std.specs.Prelude.{◌≡◌};
-ghost use Rattle.calls.specs.Calls.{guard_by, meaning, value_call, store_call, guard_call};
+ghost use Rattle.raw_calls.specs.Calls.{guard_by, meaning, value_call, store_call, guard_call};
 
 use crate::fields::Fields;
 use codes::bounds::Cell;

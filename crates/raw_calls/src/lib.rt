@@ -1,3 +1,5 @@
 // Calls by numbers: what a caller may hand in, and the instruction that it means.
+#![tactic(auto)]
+
 pub mod fields;
 pub mod read;
