@@ -1,5 +1,5 @@
 -- The changes among the first cells, one cell after another.
-use Rattle.std.proofs.Common.{◌≡◌, ℕ, ◌+◌, List, [], ◌++◌, refl, add-one}
+use Rattle.std.proofs.Common.{◌≡◌, ℕ, ◌+◌, [], ◌++◌, refl, add-one}
 use Rattle.std.specs.Option.{option_to_list}
 use Rattle.codes.specs.declared.cells.Cells.{Cells}
 use Rattle.assembly.specs.declared.kinds.KindName.{KindName}

@@ -6,7 +6,6 @@ use Rattle.protocol.specs.Meanings.{Answer}
 use Rattle.protocol.specs.Writers.{Writes, ByNumbers}
 use Rattle.lir.specs.declared.bounds.Handle.{Handle}
 use Rattle.raw_calls.specs.declared.fields.Fields.{Fields}
-use Rattle.lir.specs.declared.instruction.Instruction.{Instruction}
 use Rattle.lir.specs.declared.instruction.Instruction.TheVariants.{Value as value, Store as store, Guard as guard}
 use Rattle.assembly.specs.declared.call.Call.{Call}
 use Rattle.assembly.specs.declared.call.Call.TheVariants.{Value as value_line, Store as store_line, Guard as guard_line}

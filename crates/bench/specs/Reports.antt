@@ -1,5 +1,5 @@
 -- What is reported of a run.
-use Rattle.std.specs.Prelude.{◌≡◌, ℕ, zero, suc, cond, List, [], ◌++◌, map, Some, None, vec_items, Option}
+use Rattle.std.specs.Prelude.{ℕ, zero, suc, cond, List, [], ◌++◌, map, Some, None, vec_items, Option}
 use Rattle.std.specs.Option.{option_to_list}
 use Rattle.raw_calls.specs.Calls.{also}
 use Rattle.codes.specs.Codes.{same}

@@ -1,5 +1,5 @@
 -- What is done on a session is done on what was taken out of it.
-use Rattle.std.proofs.Common.{◌≡◌, Result, sym, subst}
+use Rattle.std.proofs.Common.{◌≡◌, Result, subst}
 use Rattle.script.specs.Sessions.{Done}
 use Rattle.script.specs.declared.command.Work.{Work}
 use Rattle.script.specs.declared.error.Error.{Error}

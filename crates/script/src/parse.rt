@@ -11,9 +11,9 @@ use assembly::fields::blank;
 use assembly::kinds::KindName;
 use assembly::mnemonic::{Mnemonic, Sort};
 use bench::command::FootSpec;
-use raw_calls::fields::Fields;
 use codes::bounds::Code;
 use lir::bounds::Handle;
+use raw_calls::fields::Fields;
 use std::alloc::Global;
 
 // A line without its comment, its words joined by one blank; empty where it has no word.

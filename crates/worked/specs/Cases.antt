@@ -19,7 +19,7 @@ use Rattle.lir.specs.declared.instruction.Value.TheVariants.{Imm, Binary, Ld}
 use Rattle.lir.specs.declared.instruction.Store.TheVariants.{St}
 use Rattle.lir.specs.declared.instruction.Test.TheVariants.{Xge}
 use Rattle.lir.specs.declared.instruction.Lives.TheVariants.{Zero, One}
-use Rattle.writers.specs.Buffers.{Kept, standing_from}
+use Rattle.writers.specs.Buffers.{standing_from}
 
 abbrev pub every : List Bool → Bool
 every [] = true

@@ -1,17 +1,16 @@
 -- The buffer is a lawful writer.
-use Rattle.std.specs.Prelude.{◌≡◌, ℕ, ◌+◌, ◌-◌, ◌%◌, ◌^◌, ◌<◌, ◌≤◌, Bool, true, false, cond, not, ◌⊎◌, List, [], ◌∷◌, ◌++◌, length, Some, None, Option, refl}
-use Rattle.std.proofs.Common.{sym, ◌∙◌, ap, subst, inl, inr, arith}
+use Rattle.std.specs.Prelude.{◌≡◌, ℕ, ◌+◌, ◌-◌, ◌<◌, ◌≤◌, Bool, true, false, List, [], ◌∷◌, length, None, refl}
+use Rattle.std.proofs.Common.{◌∙◌, inl, inr, arith}
 use Rattle.std.proofs.lemmas.List.{length_push}
 use Rattle.codes.specs.Kinds.{Arithmetic}
 use Rattle.codes.specs.declared.cells.Cells.{Cells}
-use Rattle.lir.specs.Instructions.{gives, values_in, defined}
+use Rattle.lir.specs.Instructions.{values_in, defined}
 use Rattle.lir.specs.Standings.{Standing, going, effect, run, finished}
-use Rattle.lir.specs.Refusals.{failing}
-use Rattle.protocol.specs.Meanings.{Meaning, Order, instruct, end, Accepted, Finished, refusal}
+use Rattle.protocol.specs.Meanings.{instruct, end, Accepted, refusal}
 use Rattle.protocol.specs.Writers.{Lawful}
 use Rattle.lir.specs.Limits.{index_of}
 use Rattle.lir.specs.declared.bounds.Handle.{Handle}
-use Rattle.lir.specs.declared.fault.Refusal.TheVariants.{Undefined, Ended}
+use Rattle.lir.specs.declared.fault.Refusal.TheVariants.{Undefined}
 use Rattle.lir.specs.declared.instruction.Instruction.{Instruction}
 use Rattle.lir.specs.declared.instruction.Instruction.TheVariants.{Value as value, Store as store, Guard as guard}
 use Rattle.protocol.proofs.Verdicts.{goes_on}

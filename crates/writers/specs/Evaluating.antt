@@ -1,10 +1,8 @@
 -- The evaluator is a lawful writer.
-use Rattle.std.specs.Prelude.{◌≡◌, ℕ, ◌+◌, ◌-◌, ◌%◌, ◌^◌, ◌<◌, ◌≤◌, ◌⊎◌, Some, None, Option, refl}
+use Rattle.std.specs.Prelude.{◌≡◌, ◌-◌, ◌<◌, None, refl}
 use Rattle.std.proofs.Common.{inl, inr, arith}
 use Rattle.codes.specs.Kinds.{Arithmetic}
-use Rattle.lir.specs.Instructions.{gives}
-use Rattle.lir.specs.Standings.{Standing, effect}
-use Rattle.protocol.specs.Meanings.{Order, instruct, end, Accepted, refusal}
+use Rattle.protocol.specs.Meanings.{instruct, Accepted, refusal}
 use Rattle.protocol.specs.Writers.{Lawful}
 use Rattle.lir.specs.declared.bounds.Handle.{Handle}
 use Rattle.lir.specs.declared.instruction.Instruction.{Instruction}

@@ -1,13 +1,12 @@
 -- A foot whose accepted orders do what they should is a lawful writer.
-use Rattle.std.specs.Prelude.{◌≡◌, ℕ, ◌%◌, ◌^◌, ◌<◌, ◌⊎◌, [], ◌∷◌, Some, None, Option, nat_lt, refl}
-use Rattle.std.proofs.Common.{sym, ◌∙◌, ap, subst, inl, inr, arith, ltb-true, ltb-false}
+use Rattle.std.specs.Prelude.{◌≡◌, ℕ, ◌^◌, ◌<◌, [], ◌∷◌, Some, None, Option, nat_lt, refl}
+use Rattle.std.proofs.Common.{sym, ap, subst, inl, inr, arith, ltb-true, ltb-false}
 use Rattle.codes.specs.Kinds.{Arithmetic}
 use Rattle.lir.specs.Refusals.{failing}
-use Rattle.protocol.specs.Meanings.{Meaning, Order, instruct, end, Answer, handle, done, refused, Coherent, Means, Accepted, Finished, Refused, refusal, foot_refusal, fault_of}
-use Rattle.protocol.specs.Tallies.{Tally, credited, Credits, full_at}
-use Rattle.protocol.specs.Writers.{credit_to, Writes, Lawful}
+use Rattle.protocol.specs.Meanings.{Meaning, Order, instruct, end, Answer, refused, Coherent, Means, Accepted, Finished, refusal, foot_refusal, fault_of}
+use Rattle.protocol.specs.Tallies.{Tally, Credits, full_at}
+use Rattle.protocol.specs.Writers.{credit_to, Lawful}
 use Rattle.lir.specs.declared.bounds.Handle.{Handle}
-use Rattle.lir.specs.declared.fault.Fault.{Fault}
 use Rattle.lir.specs.declared.fault.Refusal.{Refusal}
 use Rattle.lir.specs.declared.fault.Refusal.TheVariants.{NoSpace}
 use Rattle.lir.specs.declared.instruction.Instruction.{Instruction}

@@ -1,4 +1,4 @@
-use Rattle.std.proofs.Common.{sym, refl, ◌∙◌}
+use Rattle.std.proofs.Common.{sym, refl}
 use Rattle.bench.proofs.Called.{called_buffer, called_evaluator}
 use Rattle.bench.proofs.bench.Bench.call.Goals as goal
 

@@ -1,5 +1,5 @@
-use Rattle.std.proofs.Common.{◌≡◌, ◌<◌, ◌≤◌, List, [], length, get_or, take, vec_items, sym, ap, ◌∙◌, arith, rules}
-use Rattle.lir.specs.Standings.{Standing, going, effect, run, finished}
+use Rattle.std.proofs.Common.{◌≡◌, ◌<◌, ◌≤◌, List, [], length, get_or, vec_items, ap, ◌∙◌, arith}
+use Rattle.lir.specs.Standings.{Standing, going, effect, finished}
 use Rattle.lir.specs.Limits.{index_of}
 use Rattle.lir.specs.declared.bounds.Handle.{Handle}
 use Rattle.lir.specs.declared.instruction.Instruction.{Instruction}
