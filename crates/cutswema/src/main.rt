@@ -3,6 +3,7 @@
 
 use anyhow::anyhow;
 use script::session::Session;
+use std::process::ExitCode;
 use std::{env, fs, io};
 
 fn read_script(rt: &HostRuntime) -> anyhow::Result<String> {
@@ -38,12 +39,12 @@ fn run(rt: &HostRuntime) -> anyhow::Result<()> {
     Ok(())
 }
 
-fn main(rt: HostRuntime) -> anyhow::Result<()> {
+fn main(rt: HostRuntime) -> anyhow::Result<ExitCode> {
     match run(&rt) {
-        Ok(()) => Ok(()),
+        Ok(()) => Ok(ExitCode::SUCCESS),
         Err(error) => {
             eprintln!(rt; "{error}")?;
-            Err(error)
+            Ok(ExitCode::FAILURE)
         }
     }
 }

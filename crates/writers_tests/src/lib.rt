@@ -1,12 +1,12 @@
 // Tests of the two writers at the foot: what each call answers at the edges of what it takes.
 #![tactic(auto)]
 
-use raw_calls::fields::Fields;
 use codes::bounds::Code;
 use lir::bounds::Handle;
 use lir::fault::Fault;
 use lir::instruction::Value;
 use protocol::writer::Writer;
+use raw_calls::fields::Fields;
 
 pub mod tables;
 #[cfg(test)]
