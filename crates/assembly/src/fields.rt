@@ -3,9 +3,9 @@ ghost use Rattle.std.specs.Prelude.{◌≡◌};
 ghost use Rattle.assembly.specs.Names.{blank};
 
 use crate::mnemonic::Mnemonic;
-use raw_calls::fields::Fields;
 use codes::bounds::Code;
 use lir::bounds::Handle;
+use raw_calls::fields::Fields;
 
 // What a call does not use is 0.
 pub fn blank(op: Mnemonic) -> Fields<Handle>

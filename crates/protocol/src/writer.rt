@@ -5,13 +5,13 @@ ghost use Rattle.raw_calls.specs.Calls.{meant, value_call, store_call, guard_cal
 ghost use Rattle.protocol.specs.Meanings.{instruct, end, handled, settled, refusal, foot_refusal};
 ghost use Rattle.protocol.specs.Writers.{Writes, Lawful, own_fault, judgement, Judged, malformed, ByNumbers};
 
-use raw_calls::fields::Fields;
-use raw_calls::read::{read_guard, read_store, read_value};
 use codes::kind::Kind;
 use lir::bounds::Handle;
 use lir::defined::defined;
 use lir::fault::{Fault, Refusal};
 use lir::instruction::{Guard, Instruction, Store, Value};
+use raw_calls::fields::Fields;
+use raw_calls::read::{read_guard, read_store, read_value};
 
 // `PART` is the number by which faults name the writer; generic code learns nothing of a constant, so
 // `part_number` says it again with a promise. Whoever calls a writer may rely on `writes`: the exact steps of
