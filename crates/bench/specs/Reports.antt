@@ -13,8 +13,8 @@ use Rattle.lir.specs.declared.instruction.Lives.TheVariants.{Zero, One, Two, Thr
 use Rattle.lir.specs.declared.bounds.Exit.{Exit}
 use Rattle.lir.specs.Instructions.{names}
 use Rattle.lir.specs.Standings.{Standing as Stand, going, gone, ended}
-use Rattle.machine.specs.declared.Outcome.{Outcome}
-use Rattle.machine.specs.declared.Outcome.TheVariants.{Going as on, Gone as away, Ended as over}
+use Rattle.writers.specs.declared.machine.Outcome.{Outcome}
+use Rattle.writers.specs.declared.machine.Outcome.TheVariants.{Going as on, Gone as away, Ended as over}
 use Rattle.assembly.specs.declared.kinds.KindName.{KindName}
 use Rattle.assembly.specs.declared.numbers.Number.{Number}
 use Rattle.bench.specs.declared.answer.Content.{Content}

@@ -16,12 +16,12 @@ use assembly::numbers::Number;
 use codes::bounds::{Cell, Code};
 use codes::cells::Cells;
 use codes::kind::Kind;
-use machine::Machine;
 use protocol::writer::Writer;
 use std::alloc::Global;
 use std::mem;
 use writers::buffer::Buffer;
 use writers::evaluator::Evaluator;
+use writers::machine::Machine;
 
 // An evaluator has the start that it was made with beside it, since its run is compared with that.
 #[derive(Drop)]

@@ -1,7 +1,7 @@
 // What a run is reported as: how it stands, and what it changed.
 ghost use Rattle.std.specs.Prelude.{◌≡◌, IfOk};
 ghost use Rattle.bench.specs.Reports.{change, changes, numbers, stands, tells, told};
-ghost use Rattle.machine.specs.Machines.{stands as where_stands};
+ghost use Rattle.writers.specs.Machines.{stands as where_stands};
 
 use crate::answer::{Content, Report, Standing};
 use crate::error::Error;
@@ -12,8 +12,8 @@ use codes::cells::Cells;
 use codes::codes::CELLS;
 use codes::kind::Kind;
 use lir::instruction::Lives;
-use machine::{Machine, Outcome};
 use std::alloc::Global;
+use writers::machine::{Machine, Outcome};
 
 fn numbers(kind: KindName, lives: Lives<Code>) -> Lives<Number>
     ensures { result ≡ numbers kind lives }

@@ -20,7 +20,7 @@ sum_of p q = stopped (signed p +ℤ signed q)
 abbrev pub difference_of : Code → Code → Code
 difference_of p q = stopped (signed p -ℤ signed q)
 
--- quotZ drops the fraction toward zero
+-- int_div drops the fraction toward zero
 abbrev pub product_of : ℕ → Code → Code → Code
 product_of s p q = stopped (int_div (signed p *ℤ signed q) (pos s))
 

@@ -14,8 +14,8 @@ use Rattle.lir.specs.declared.instruction.Test.TheVariants.{Xt, Xf, Xge}
 use Rattle.lir.specs.declared.instruction.Lives.{Lives}
 use Rattle.lir.specs.declared.instruction.Lives.TheVariants.{Zero, One, Two, Three, Four}
 use Rattle.lir.specs.declared.instruction.Guard.{Guard}
-use Rattle.lir.specs.declared.instruction.Instruction.{Instruction}
-use Rattle.lir.specs.declared.instruction.Instruction.TheVariants.{Value as value, Store as store, Guard as guard}
+pub use Rattle.lir.specs.declared.instruction.Instruction.{Instruction}
+pub use Rattle.lir.specs.declared.instruction.Instruction.TheVariants.{Value as value, Store as store, Guard as guard}
 
 abbrev pub names : {N : Type 0} → Lives N → List N
 names Zero = []

@@ -8,7 +8,7 @@ use Rattle.protocol.specs.Meanings.{Meaning, Order, instruct, end}
 use Rattle.protocol.specs.Writers.{Writes}
 use Rattle.lir.specs.Limits.{index_of}
 use Rattle.writers.specs.Feet.{Foot, foot_writes}
-use Rattle.machine.specs.Machines.{stands}
+use Rattle.writers.specs.Machines.{stands}
 use Rattle.writers.specs.declared.evaluator.Evaluator.{Evaluator}
 
 -- what there is to see of an evaluator

@@ -1,3 +1,4 @@
+pub mod Machines
 pub mod Feet
 pub mod Buffers
 pub mod Evaluators

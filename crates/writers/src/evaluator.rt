@@ -1,8 +1,7 @@
 // The evaluator runs each instruction as it arrives.
-ghost use Rattle.std.specs.Prelude.{◌≤◌};
-ghost use Rattle.machine.specs.Machines.{held};
+ghost use Rattle.std.specs.Prelude.{◌≤◌, vec_len};
 
-use machine::Machine;
+use crate::machine::Machine;
 
 pub mod calls;
 
@@ -13,6 +12,6 @@ pub struct Evaluator<K> {
     handles: u16,
     taken: u64,
     over: bool,
-    ghost few: { held machine ≤ handles },
+    ghost few: { vec_len machine.values ≤ handles },
     ghost within: { handles ≤ 1024 },
 }

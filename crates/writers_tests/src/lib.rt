@@ -8,7 +8,7 @@ use lir::instruction::Value;
 use protocol::writer::Writer;
 use raw_calls::fields::Fields;
 
-pub mod tables;
+pub mod calls;
 #[cfg(test)]
 mod tests;
 pub mod traces;

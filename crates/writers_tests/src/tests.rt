@@ -1,5 +1,5 @@
 // What the feet answer, and where their runs stand.
-use crate::tables::{LISTED, MALFORMED, UNDEFINED, UNUSED};
+use crate::calls::{LISTED, MALFORMED, UNDEFINED, UNUSED};
 use crate::traces::{cell, code_at, guard_on, is_ended, left, start_with, surprises};
 use crate::{fault_of, fill, number_of};
 use codes::bounds::Code;
@@ -8,12 +8,12 @@ use codes::count::Count;
 use codes::pressure::Bar100;
 use lir::bounds::Handle;
 use lir::instruction::{Op, Store, Test, Value};
-use machine::Machine;
 use protocol::writer::Writer;
 use std::process::Abort;
 use std::test::Fail;
 use writers::buffer::Buffer;
 use writers::evaluator::Evaluator;
+use writers::machine::Machine;
 
 // Two values, then every table; the counts are those of the calls that were accepted.
 fn tables<W: Writer>(rt: &impl Abort, w: &mut W) {

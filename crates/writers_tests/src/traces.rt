@@ -5,8 +5,8 @@ use codes::cells::Cells;
 use codes::kind::Kind;
 use lir::bounds::{Exit, Handle};
 use lir::instruction::{Guard, Lives, Test};
-use machine::{Machine, Outcome};
 use protocol::writer::Writer;
+use writers::machine::{Machine, Outcome};
 
 // The number of calls of a table that did not get the refusal that they should.
 pub fn surprises<W: Writer>(w: &mut W, calls: &[Call]) -> usize {

@@ -1,14 +1,14 @@
 // Running what a buffer keeps.
 ghost use Rattle.std.specs.Prelude.{◌≡◌};
 ghost use Rattle.writers.specs.Buffers.{viewed, standing_from};
-ghost use Rattle.machine.specs.Machines.{stands};
+ghost use Rattle.writers.specs.Machines.{stands};
 
 use super::Buffer;
+use crate::machine::Machine;
 use codes::cells::Cells;
 use codes::kind::Kind;
 use lir::bounds::Handle;
 use lir::instruction::Instruction;
-use machine::Machine;
 
 impl<K: Kind> Buffer<K> {
     // The instructions kept, in the order in which they came.

@@ -6,6 +6,7 @@ ghost use Rattle.writers.specs.Evaluators.{eval_foot, evaluates, viewed, fresh};
 ghost use Rattle.writers.specs.Evaluating.{eval_lawful};
 
 use super::Evaluator;
+use crate::machine::Machine;
 use codes::cells::Cells;
 use codes::kind::Kind;
 use lir::bounds::Handle;
@@ -13,7 +14,6 @@ use lir::defined::gives;
 use lir::fault::{EVALUATOR_PART, Fault};
 use lir::instruction::{Guard, Instruction, Store, Value};
 use lir::names::HANDLES;
-use machine::Machine;
 use protocol::writer::Writer;
 use std::alloc::{AllocError, Global};
 

@@ -3,18 +3,19 @@ use Rattle.lir.specs.Standings.{Standing, going, effect, finished}
 use Rattle.lir.specs.Limits.{index_of}
 use Rattle.lir.specs.declared.bounds.Handle.{Handle}
 use Rattle.lir.specs.declared.instruction.Instruction.{Instruction}
-use Rattle.machine.specs.Machines.{held}
 use Rattle.lir.proofs.Runs.{gives_one, run_more, run_all}
 use Rattle.writers.proofs.buffer.Buffer.run.Goals as goal
+
+pub step-requires : goal.step-requires
+step-requires g c = omega (arith, c.args.self.now.few, c.args.self.now.within, c.deref-i-items.ensures.len, c.loop-i.invariant.1, c.loop-i-test.true)
 
 pub loop-i-preserved : goal.loop-i-preserved
 loop-i-preserved g c =
     let items = vec_items c.args.self.now.kept in
     let same : c.deref-i-items.result.now ≡ items = c.deref-i-items.ensures.value in
     let item : c.i-item.result ≡ get_or items c.loop-i.i-index c.i-item.result = c.i-item.is ∙ ap (λ (is : List (Instruction Handle)). get_or is c.loop-i.i-index c.i-item.result) same in
-    let room : held c.loop-i.machine < 1024 = omega (arith, c.args.self.now.few, c.args.self.now.within, c.deref-i-items.ensures.len, c.loop-i.invariant.1, c.loop-i-test.true) in
     let within : c.loop-i.i-index < length items = omega (arith, c.loop-i-test.true, ap (λ (is : List (Instruction Handle)). length is) same) in (
-      c.step.ensures.usual room
+      c.step.ensures.stands
           ∙ ap (λ (t : Standing). effect index_of g.K.Kind.arithmetic c.i-item.result t) c.loop-i.invariant.0
           ∙ run_more g.K.Kind.arithmetic items c.loop-i.i-index c.i-item.result (going [] c.args.start.now) within item,
       omega (arith, c.step.ensures.grows, c.loop-i.invariant.1, gives_one c.i-item.result),

@@ -1,7 +1,7 @@
 // What can be asked of a machine.
 ghost use Rattle.std.specs.Prelude.{◌≡◌};
 
-use crate::{Machine, Outcome};
+use super::{Machine, Outcome};
 use codes::bounds::Code;
 use codes::cells::Cells;
 use codes::kind::Kind;

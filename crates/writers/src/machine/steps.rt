@@ -4,10 +4,10 @@ ghost use Rattle.lir.specs.declared.instruction.Instruction.TheVariants.{Value a
 ghost use Rattle.lir.specs.Instructions.{gives};
 ghost use Rattle.lir.specs.Standings.{going, value_of, value_at, stored, effect, finished};
 ghost use Rattle.lir.specs.Limits.{index_of};
-ghost use Rattle.machine.specs.declared.Outcome.TheVariants.{Going};
-ghost use Rattle.machine.specs.Machines.{stands, held, stepped, each_live};
+ghost use Rattle.writers.specs.declared.machine.Outcome.TheVariants.{Going};
+ghost use Rattle.writers.specs.Machines.{standing_of, stands, each_live};
 
-use crate::{Machine, Outcome};
+use super::{Machine, Outcome};
 use codes::bounds::{Cell, Code};
 use codes::cells::Cells;
 use codes::kind::Kind;
@@ -123,30 +123,25 @@ impl<K: Kind> Machine<K> {
         }
     }
 
-    // An instruction changes only a run that is going. One that would give a value too many is passed over;
-    // short of that, `usual` is the whole of it.
-    pub fn step(&mut self, i: Instruction<Handle>)
-        ensures stands { stands self.new ≡ stepped K.Kind.arithmetic i (stands self.old) }
-        ensures usual { held self.old < 1024 → stands self.new ≡ effect index_of K.Kind.arithmetic i (stands self.old) }
-        ensures grows { held self.new ≤ held self.old + gives i }
+    // An instruction changes only a run that is going.
+    pub(crate) fn step(&mut self, i: Instruction<Handle>)
+        requires { vec_len self.old.values < 1024 }
+        ensures stands { stands self.new ≡ effect index_of K.Kind.arithmetic i (stands self.old) }
+        ensures grows { vec_len self.new.values ≤ vec_len self.old.values + gives i }
     {
         let Outcome::Going = self.outcome else {
             return;
         };
         match i {
-            Instruction::Value(i) => {
-                if self.values.len() < HANDLES as usize {
-                    self.keep_value(i);
-                }
-            }
+            Instruction::Value(i) => self.keep_value(i),
             Instruction::Store(i) => self.change_cell(i),
             Instruction::Guard(g) => self.leave_or_stay(g),
         }
     }
 
-    pub fn end(&mut self)
+    pub(crate) fn end(&mut self)
         ensures stands { stands self.new ≡ finished (stands self.old) }
-        ensures keeps { held self.new ≡ held self.old }
+        ensures grows { vec_len self.new.values ≡ vec_len self.old.values }
     {
         if let Outcome::Going = self.outcome {
             self.outcome = Outcome::Ended;

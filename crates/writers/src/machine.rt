@@ -1,6 +1,4 @@
-// A machine runs one trace, instruction by instruction.
-#![tactic(auto)]
-
+// One run of a trace.
 ghost use Rattle.std.specs.Prelude.{◌≤◌, vec_len, vec_capacity};
 
 use codes::bounds::Code;
@@ -20,13 +18,13 @@ pub enum Outcome {
     Ended,
 }
 
-// The values are those of a going run. Room for 1,024 of them, as many as there are handles, is taken at the making.
+// The values are those of a going run; room for all that a trace can give is taken at the making.
 #[derive(Drop)]
 pub struct Machine<K> {
-    kind: PhantomData<K>,
-    values: Vec<Code>,
-    cells: Cells,
-    outcome: Outcome,
+    pub(crate) kind: PhantomData<K>,
+    pub(crate) values: Vec<Code>,
+    pub(crate) cells: Cells,
+    pub(crate) outcome: Outcome,
     ghost room: { 1024 ≤ vec_capacity values },
     ghost few: { vec_len values ≤ 1024 },
 }
