@@ -3,7 +3,7 @@ use Rattle.std.specs.Prelude.{◌≡◌, List, [], Some, vec_items, Option}
 use Rattle.raw_calls.specs.Calls.{meant, guard_by, value_call, store_call, guard_call}
 use Rattle.raw_calls.specs.declared.fields.Fields.{Fields}
 use Rattle.codes.specs.Bounds.{cell_at}
-use Rattle.lir.specs.declared.bounds.Handle.{Handle}
+use Rattle.lir.specs.Limits.{Handle}
 use Rattle.lir.specs.declared.instruction.Instruction.{Instruction}
 use Rattle.lir.specs.declared.instruction.Instruction.TheVariants.{Value as value, Store as store, Guard as guard}
 use Rattle.lir.specs.declared.instruction.Value.TheVariants.{Imm, Binary, Ld, Ldx}

@@ -1,8 +1,8 @@
 -- The instructions by name: how each is spelled, its number, and the fields of its call.
-use Rattle.std.specs.Prelude.{◌≡◌, ℕ, List, Some, None, codes, Option, ◌≢◌}
+use Rattle.std.specs.Prelude.{ℕ, List, codes}
 use Rattle.codes.specs.Codes.{nought}
 use Rattle.lir.specs.Limits.{handle_of}
-use Rattle.lir.specs.declared.bounds.Handle.{Handle}
+use Rattle.lir.specs.Limits.{Handle}
 use Rattle.raw_calls.specs.declared.fields.Fields.{Fields}
 use Rattle.lir.specs.declared.instruction.Op.{Op}
 use Rattle.lir.specs.declared.instruction.Op.TheVariants.{Add, Sub, Mul, And, Or, Xor, Eq, Lt}
@@ -31,11 +31,6 @@ spelling Stx = codes "stx"
 spelling Xt = codes "xt"
 spelling Xf = codes "xf"
 spelling Xge = codes "xge"
-
--- the name that a text spells, or none where it spells none
-abbrev pub Spelled : List ℕ → Option Mnemonic → Type 0
-Spelled bs (Some m) = bs ≡ spelling m
-Spelled bs None = (m : Mnemonic) → bs ≢ spelling m
 
 abbrev pub op_number : Op → ℕ
 op_number Add = 2

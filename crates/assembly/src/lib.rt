@@ -6,3 +6,4 @@ pub mod fields;
 pub mod kinds;
 pub mod mnemonic;
 pub mod numbers;
+pub mod unknown;

@@ -1,8 +1,11 @@
 // The instructions by name.
 ghost use Rattle.std.specs.Prelude.{◌≡◌};
-ghost use Rattle.assembly.specs.Names.{number, sort, Spelled};
+ghost use Rattle.assembly.specs.Names.{number, sort, spelling};
+ghost use Rattle.assembly.specs.Spelling.{Spelled};
 
+use crate::unknown::UnknownWord;
 use lir::instruction::Op;
+use std::str::FromStr;
 
 #[derive(Clone, Copy)]
 pub enum Mnemonic {
@@ -25,45 +28,43 @@ pub enum Sort {
     Guard,
 }
 
-impl Mnemonic {
-    pub fn named(word: &str) -> Option<Mnemonic>
-        ensures { Spelled word.now result }
-    {
+// One table of all names: the pure ones read apart would part it.
+impl FromStr for Mnemonic {
+    type Err = UnknownWord;
+
+    ghost from_str_gives = { Spelled spelling };
+
+    fn from_str(word: &str) -> Result<Mnemonic, UnknownWord> {
         match word {
-            "imm" => Some(Mnemonic::Imm),
-            "add" => Some(Mnemonic::Binary(Op::Add)),
-            "sub" => Some(Mnemonic::Binary(Op::Sub)),
-            "mul" => Some(Mnemonic::Binary(Op::Mul)),
-            "and" => Some(Mnemonic::Binary(Op::And)),
-            "or" => Some(Mnemonic::Binary(Op::Or)),
-            "xor" => Some(Mnemonic::Binary(Op::Xor)),
-            "eq" => Some(Mnemonic::Binary(Op::Eq)),
-            "lt" => Some(Mnemonic::Binary(Op::Lt)),
-            "ld" => Some(Mnemonic::Ld),
-            "ldx" => Some(Mnemonic::Ldx),
-            "st" => Some(Mnemonic::St),
-            "stx" => Some(Mnemonic::Stx),
-            "xt" => Some(Mnemonic::Xt),
-            "xf" => Some(Mnemonic::Xf),
-            "xge" => Some(Mnemonic::Xge),
-            _ => None,
+            "imm" => Ok(Mnemonic::Imm),
+            "add" => Ok(Mnemonic::Binary(Op::Add)),
+            "sub" => Ok(Mnemonic::Binary(Op::Sub)),
+            "mul" => Ok(Mnemonic::Binary(Op::Mul)),
+            "and" => Ok(Mnemonic::Binary(Op::And)),
+            "or" => Ok(Mnemonic::Binary(Op::Or)),
+            "xor" => Ok(Mnemonic::Binary(Op::Xor)),
+            "eq" => Ok(Mnemonic::Binary(Op::Eq)),
+            "lt" => Ok(Mnemonic::Binary(Op::Lt)),
+            "ld" => Ok(Mnemonic::Ld),
+            "ldx" => Ok(Mnemonic::Ldx),
+            "st" => Ok(Mnemonic::St),
+            "stx" => Ok(Mnemonic::Stx),
+            "xt" => Ok(Mnemonic::Xt),
+            "xf" => Ok(Mnemonic::Xf),
+            "xge" => Ok(Mnemonic::Xge),
+            _ => Err(UnknownWord),
         }
     }
+}
 
+impl Mnemonic {
     // The op's number in a raw call.
     pub fn number(self) -> u8
         ensures { result ≡ number self }
     {
         match self {
             Mnemonic::Imm => 1,
-            Mnemonic::Binary(Op::Add) => 2,
-            Mnemonic::Binary(Op::Sub) => 3,
-            Mnemonic::Binary(Op::Mul) => 4,
-            Mnemonic::Binary(Op::And) => 5,
-            Mnemonic::Binary(Op::Or) => 6,
-            Mnemonic::Binary(Op::Xor) => 7,
-            Mnemonic::Binary(Op::Eq) => 10,
-            Mnemonic::Binary(Op::Lt) => 11,
+            Mnemonic::Binary(op) => op as u8,
             Mnemonic::Ld => 12,
             Mnemonic::Ldx => 13,
             Mnemonic::St => 16,

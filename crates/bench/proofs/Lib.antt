@@ -1,3 +1,0 @@
-mod Taken
-mod Changed
-mod Called

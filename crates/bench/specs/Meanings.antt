@@ -1,20 +1,18 @@
 -- What the calls of a script mean to a writer.
-use Rattle.std.specs.Prelude.{vec_items}
+use Rattle.std.specs.Prelude.{Option, Result, vec_items}
 use Rattle.raw_calls.specs.Calls.{meant, value_call, store_call, guard_call}
-use Rattle.protocol.specs.Meanings.{Answer, handle, done, refused, end, Meaning}
+use Rattle.protocol.specs.Meanings.{answered, end, Meaning}
 use Rattle.protocol.specs.Writers.{Writes, ByNumbers}
 use Rattle.lir.specs.declared.instruction.Instruction.TheVariants.{Value as value, Store as store, Guard as guard}
 use Rattle.assembly.specs.declared.call.Call.{Call}
 use Rattle.assembly.specs.declared.call.Call.TheVariants.{Value as value_line, Store as store_line, Guard as guard_line, End as end_line}
 use Rattle.bench.specs.declared.answer.Counts.{Counts}
-use Rattle.bench.specs.declared.answer.Answer.{Answer as Reply}
-use Rattle.bench.specs.declared.answer.Answer.TheVariants.{Handle as handle_reply, Accepted as accepted_reply, Refused as refused_reply}
+use Rattle.lir.specs.Limits.{Handle}
+use Rattle.lir.specs.declared.fault.Fault.{Fault}
 
 -- what a writer answered
-abbrev pub answered : Reply → Answer
-answered (handle_reply h) = handle h
-answered accepted_reply = done
-answered (refused_reply f) = refused f
+abbrev pub Reply : Type 0
+Reply = Result (Option Handle) Fault
 
 -- the step of a call: for an instruction the one that its numbers mean
 module _ {W : Type 0} (ws : Writes W) where

@@ -1,25 +1,15 @@
 // What a bench answers.
 use assembly::numbers::Number;
 use codes::bounds::Cell;
-use lir::bounds::{Exit, Handle};
+use lir::bounds::Handle;
 use lir::fault::Fault;
-use lir::instruction::Lives;
+use writers::machine::Outcome;
 
-// What a writer answered a call.
-#[derive(Clone, Copy)]
-pub enum Answer {
-    Handle(Handle),
-    Accepted,
-    Refused(Fault),
-}
+// What a writer answered a call: the handle of a value, nothing where a call gives none, or why it was refused.
+pub type Answer = Result<Option<Handle>, Fault>;
 
-// How a run stands.
-#[derive(Clone, Copy)]
-pub enum Standing {
-    Going,
-    Left(Exit, Lives<Number>),
-    Ended,
-}
+// How a run stands, in numbers.
+pub type Standing = Outcome<Number>;
 
 // A cell, and what it holds.
 #[derive(Clone, Copy)]

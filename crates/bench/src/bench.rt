@@ -1,7 +1,6 @@
 // A bench: the start that a script has set and the foot that it works on, in one kind of numbers.
-ghost use Rattle.std.specs.Prelude.{◌≡◌, OnOk};
+ghost use Rattle.std.specs.Prelude.{◌≡◌, None, OnOk};
 ghost use Rattle.codes.specs.Contents.{blank, written};
-ghost use Rattle.bench.specs.declared.bench.Foot.TheVariants.{Open};
 ghost use Rattle.bench.specs.Benches.{Called, Chosen, Chose, Ran, asked, fresh_bench, with_start};
 ghost use Rattle.assembly.specs.Numbers.{shown};
 
@@ -18,37 +17,38 @@ use codes::cells::Cells;
 use codes::kind::Kind;
 use protocol::writer::Writer;
 use std::alloc::Global;
-use std::mem;
 use writers::buffer::Buffer;
 use writers::evaluator::Evaluator;
 use writers::machine::Machine;
 
-// An evaluator has the start that it was made with beside it, since its run is compared with that.
+// What stands at the foot. An evaluator has the start that it was made with beside it, since its run is compared
+// with that.
 #[derive(Drop)]
 pub enum Foot<K> {
-    Open,
     Buffer(Buffer<K>),
     Evaluator(Evaluator<K>, Cells),
 }
 
+// `kind` is the name by which numbers are shown, and stands beside K: whoever makes a bench may say any, and is asked for
+// no more. The heap comes with the calls that take memory, since a bench is made without.
 #[derive(Drop)]
 pub struct Bench<K> {
     pub kind: KindName,
     pub start: Cells,
-    pub foot: Foot<K>,
+    pub foot: Option<Foot<K>>,
 }
 
 impl<K: Kind> Bench<K> {
     pub fn new(kind: KindName) -> Bench<K>
         ensures kind { result.kind ≡ kind }
         ensures start { result.start ≡ blank }
-        ensures foot { result.foot ≡ Open }
+        ensures foot { result.foot ≡ None }
         ensures bench { result ≡ fresh_bench kind }
     {
         Bench {
             kind,
             start: Cells::new(),
-            foot: Foot::Open,
+            foot: None,
         }
     }
 
@@ -76,36 +76,28 @@ impl<K: Kind> Bench<K> {
             FootSpec::Buffer(places) => {
                 let buffer = Buffer::new(heap, places)?;
                 let places = buffer.space();
-                self.foot = Foot::Buffer(buffer);
+                self.foot = Some(Foot::Buffer(buffer));
                 Ok(FootSpec::Buffer(places))
             }
             FootSpec::Evaluator => {
                 let start = self.start;
                 let evaluator = Evaluator::new(heap, &start)?;
-                self.foot = Foot::Evaluator(evaluator, start);
+                self.foot = Some(Foot::Evaluator(evaluator, start));
                 Ok(FootSpec::Evaluator)
             }
         }
     }
 
-    // The foot is taken out for the call and put back.
+    // The arms are one call on writers of two types, here as in `run` and `ask`.
     pub fn call(&mut self, call: &Call) -> Result<Answer, Error>
         ensures kind { self.new.kind ≡ self.old.kind }
         ensures start { self.new.start ≡ self.old.start }
         ensures foot { Called K.Kind.arithmetic self.old.foot call.now result self.new.foot }
     {
-        match mem::replace(&mut self.foot, Foot::Open) {
-            Foot::Open => Err(Error::NoFoot),
-            Foot::Buffer(mut buffer) => {
-                let answer = calls::call(&mut buffer, call);
-                self.foot = Foot::Buffer(buffer);
-                Ok(answer)
-            }
-            Foot::Evaluator(mut evaluator, start) => {
-                let answer = calls::call(&mut evaluator, call);
-                self.foot = Foot::Evaluator(evaluator, start);
-                Ok(answer)
-            }
+        match &mut self.foot {
+            None => Err(Error::NoFoot),
+            Some(Foot::Buffer(buffer)) => Ok(calls::call(buffer, call)),
+            Some(Foot::Evaluator(evaluator, _)) => Ok(calls::call(evaluator, call)),
         }
     }
 
@@ -114,18 +106,15 @@ impl<K: Kind> Bench<K> {
         ensures { Ran K.Kind.arithmetic self.now result }
     {
         match &self.foot {
-            Foot::Open => Err(Error::NoFoot),
-            Foot::Buffer(buffer) => {
+            None => Err(Error::NoFoot),
+            Some(Foot::Buffer(buffer)) => {
                 let mut machine = Machine::new(heap, &self.start)?;
                 buffer.run(&self.start, &mut machine);
-                report(heap, self.kind, &self.start, &machine)
+                Ok(report(heap, self.kind, &self.start, &machine)?)
             }
-            Foot::Evaluator(evaluator, start) => report(
-                heap,
-                self.kind,
-                start,
-                evaluator.machine(),
-            ),
+            Some(Foot::Evaluator(evaluator, start)) => {
+                Ok(report(heap, self.kind, start, evaluator.machine())?)
+            }
         }
     }
 
@@ -133,9 +122,9 @@ impl<K: Kind> Bench<K> {
         ensures { result ≡ asked K.Kind.arithmetic self.now.foot }
     {
         match &self.foot {
-            Foot::Open => Err(Error::NoFoot),
-            Foot::Buffer(buffer) => Ok(calls::ask(buffer)),
-            Foot::Evaluator(evaluator, _) => Ok(calls::ask(evaluator)),
+            None => Err(Error::NoFoot),
+            Some(Foot::Buffer(buffer)) => Ok(calls::ask(buffer)),
+            Some(Foot::Evaluator(evaluator, _)) => Ok(calls::ask(evaluator)),
         }
     }
 }

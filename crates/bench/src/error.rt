@@ -4,12 +4,13 @@ ghost use Rattle.bench.specs.declared.error.Error.TheVariants.{Memory};
 
 use std::alloc::{AllocError, AllocFailed};
 
-#[derive(Clone, Copy)]
+#[derive(Clone, Copy, Debug, PartialEq, Eq)]
 pub enum Error {
     Memory,
     NoFoot,
 }
 
+// By hand, since what a derive writes does not say which error comes. A foot's choice and a run rest on it.
 impl From<AllocError> for Error {
     ghost from_gives = { λ _ r. r ≡ Memory };
 

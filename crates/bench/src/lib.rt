@@ -7,3 +7,4 @@ pub mod calls;
 pub mod command;
 pub mod error;
 pub mod report;
+pub mod text;

@@ -6,4 +6,5 @@ pub mod Counts
 pub mod Pressures
 pub mod CountLaws
 pub mod Alike
+pub mod Texts
 pub mod PressureLaws

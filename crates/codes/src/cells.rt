@@ -5,6 +5,7 @@ use crate::bounds::Code;
 
 pub mod access;
 
+// An array, since nothing may be allocated where a run begins.
 #[derive(Clone, Copy)]
 pub struct Cells {
     pub codes: [Code; 64],

@@ -1,4 +1,6 @@
 // Counts: whole numbers modulo 2^32.
+ghost use Rattle.std.specs.Prelude.{refl};
+ghost use Rattle.codes.specs.Codes.{code};
 ghost use Rattle.codes.specs.Counts.{count};
 ghost use Rattle.codes.specs.CountLaws.{count_laws};
 
@@ -12,19 +14,15 @@ impl Kind for Count {
 
     const FILE_BYTE: u8 = 0;
 
+    ghost ONE = { code 1 };
+
+    ghost FILE_BYTE = { 0 };
+
     ghost arithmetic = { count };
 
-    ghost byte = { 0 };
+    ghost one = { refl };
 
     ghost laws = { count_laws };
-
-    fn unit() -> Code {
-        Code::new(Self::ONE.bits)
-    }
-
-    fn mark() -> u8 {
-        Self::FILE_BYTE
-    }
 
     fn sum(p: Code, q: Code) -> Code {
         Code::new(p.bits.wrapping_add(q.bits))

@@ -7,3 +7,4 @@ pub mod codes;
 pub mod count;
 pub mod kind;
 pub mod pressure;
+pub mod text;

@@ -1,17 +1,59 @@
 // Pressures: fixed-point numbers, so many steps to the bar, that stop at the ends of 32 signed bits.
-ghost use Rattle.std.specs.Prelude.{◌≡◌, ◌<◌};
-ghost use Rattle.codes.specs.Pressures.{signed, stopped, sum_of, difference_of, product_of, less_than, pressure};
+ghost use Rattle.std.specs.Prelude.{◌≡◌, ℕ, ◌<◌, ◌^◌, refl};
+ghost use Rattle.codes.specs.Codes.{code};
+ghost use Rattle.codes.specs.Pressures.{signed, stopped, pressure};
 ghost use Rattle.std.proofs.Common.{lit<};
 ghost use Rattle.codes.specs.PressureLaws.{pressure_laws};
 
 use crate::bounds::Code;
 use crate::kind::Kind;
 
-// 20 steps to the bar.
+// How many steps a kind of pressures has to the bar: at least one, and so few that a bar is a number of 32 signed bits.
+pub trait Scale {
+    const STEPS: u32;
+
+    const FILE_BYTE: u8;
+
+    ghost STEPS: { ℕ };
+
+    ghost FILE_BYTE: { ℕ };
+
+    ghost some: { 0 < STEPS };
+
+    ghost few: { STEPS < 2 ^ 31 };
+}
+
 pub struct Bar20;
 
-// 100 steps to the bar.
+impl Scale for Bar20 {
+    const STEPS: u32 = 20;
+
+    const FILE_BYTE: u8 = 1;
+
+    ghost STEPS = { 20 };
+
+    ghost FILE_BYTE = { 1 };
+
+    ghost some = { lit< tt };
+
+    ghost few = { lit< tt };
+}
+
 pub struct Bar100;
+
+impl Scale for Bar100 {
+    const STEPS: u32 = 100;
+
+    const FILE_BYTE: u8 = 2;
+
+    ghost STEPS = { 100 };
+
+    ghost FILE_BYTE = { 2 };
+
+    ghost some = { lit< tt };
+
+    ghost few = { lit< tt };
+}
 
 // The number that a code stands for, in two's complement.
 fn signed(p: Code) -> i64
@@ -28,100 +70,35 @@ fn stopped(z: i64) -> Code
     Code::new((kept as i32).cast_unsigned())
 }
 
-fn sum_of(p: Code, q: Code) -> Code
-    ensures { result ≡ sum_of p q }
-{
-    stopped(signed(p) + signed(q))
-}
+impl<S: Scale> Kind for S {
+    const ONE: Code = Code { bits: S::STEPS };
 
-fn difference_of(p: Code, q: Code) -> Code
-    ensures { result ≡ difference_of p q }
-{
-    stopped(signed(p) - signed(q))
-}
+    const FILE_BYTE: u8 = S::FILE_BYTE;
 
-// The product of two fits 64 bits before it is divided, so nothing is stopped too early.
-fn product_of(p: Code, q: Code, one: Code) -> Code
-    requires { 0 < one.bits }
-    ensures { result ≡ product_of one.bits p q }
-{
-    stopped(signed(p) * signed(q) / i64::from(one.bits))
-}
+    ghost ONE = { code S.STEPS };
 
-fn less_than(p: Code, q: Code) -> bool
-    ensures { result ≡ less_than p q }
-{
-    signed(p) < signed(q)
-}
+    ghost FILE_BYTE = { S.Scale.FILE_BYTE };
 
-impl Kind for Bar20 {
-    const ONE: Code = Code { bits: 20 };
+    ghost arithmetic = { pressure S.STEPS };
 
-    const FILE_BYTE: u8 = 1;
+    ghost one = { refl };
 
-    ghost arithmetic = { pressure 20 };
-
-    ghost byte = { 1 };
-
-    ghost laws = { pressure_laws 20 (lit< tt) (lit< tt) };
-
-    fn unit() -> Code {
-        Code::new(Self::ONE.bits)
-    }
-
-    fn mark() -> u8 {
-        Self::FILE_BYTE
-    }
+    ghost laws = { pressure_laws S.STEPS S.some S.few };
 
     fn sum(p: Code, q: Code) -> Code {
-        sum_of(p, q)
+        stopped(signed(p) + signed(q))
     }
 
     fn difference(p: Code, q: Code) -> Code {
-        difference_of(p, q)
+        stopped(signed(p) - signed(q))
     }
 
+    // The product of two fits 64 bits before it is divided, so nothing is stopped too early.
     fn product(p: Code, q: Code) -> Code {
-        product_of(p, q, Self::ONE)
+        stopped(signed(p) * signed(q) / i64::from(S::STEPS))
     }
 
     fn less(p: Code, q: Code) -> bool {
-        less_than(p, q)
-    }
-}
-
-impl Kind for Bar100 {
-    const ONE: Code = Code { bits: 100 };
-
-    const FILE_BYTE: u8 = 2;
-
-    ghost arithmetic = { pressure 100 };
-
-    ghost byte = { 2 };
-
-    ghost laws = { pressure_laws 100 (lit< tt) (lit< tt) };
-
-    fn unit() -> Code {
-        Code::new(Self::ONE.bits)
-    }
-
-    fn mark() -> u8 {
-        Self::FILE_BYTE
-    }
-
-    fn sum(p: Code, q: Code) -> Code {
-        sum_of(p, q)
-    }
-
-    fn difference(p: Code, q: Code) -> Code {
-        difference_of(p, q)
-    }
-
-    fn product(p: Code, q: Code) -> Code {
-        product_of(p, q, Self::ONE)
-    }
-
-    fn less(p: Code, q: Code) -> bool {
-        less_than(p, q)
+        signed(p) < signed(q)
     }
 }

@@ -1,7 +1,7 @@
 // Runs a script, from the file named as the argument or from standard input, and prints each line's answer.
 #![tactic(auto)]
 
-use anyhow::anyhow;
+use anyhow::{anyhow, bail};
 use script::session::Session;
 use std::process::ExitCode;
 use std::{env, fs, io};
@@ -13,27 +13,23 @@ fn read_script(rt: &HostRuntime) -> anyhow::Result<String> {
         return Ok(io::read_to_string(rt.alloc(), rt.stdin())?);
     };
     if args.next().is_some() {
-        return Err(anyhow!("give the name of one script, or none to read standard input"));
+        bail!("give the name of one script, or none to read standard input");
     }
-    match fs::read_to_string(rt, path.as_str()) {
-        Ok(text) => Ok(text),
-        Err(error) => Err(anyhow!(format!(in rt.alloc(); "{path}: {error}")?)),
-    }
+    fs::read_to_string(rt, path.as_str()).map_err(|error| anyhow!("{path}: {error}"))
 }
 
 // A line that cannot be read or done ends the script.
 fn run(rt: &HostRuntime) -> anyhow::Result<()> {
     let heap = rt.alloc();
     let text = read_script(rt)?;
-    let mut session = Session::Fresh;
+    let mut session = Session::new();
     for (index, line) in text.lines().enumerate() {
-        match session.line(heap, line) {
-            Ok(Some(entry)) => rt.println(entry)?,
-            Ok(None) => {}
-            Err(error) => {
-                let number = index.saturating_add(1);
-                return Err(anyhow!(format!(in heap; "line {number}: {error}")?));
-            }
+        let number = index.saturating_add(1);
+        let entry = session
+            .line(heap, line)
+            .map_err(|error| anyhow!("line {number}: {error}"))?;
+        if let Some(entry) = entry {
+            rt.println(entry)?;
         }
     }
     Ok(())

@@ -1,56 +1,41 @@
-// Tests of the three kinds against a table.
+// Tests of the three kinds against tables.
 #![tactic(auto)]
 
 use codes::bounds::Code;
-use codes::count::Count;
 use codes::kind::Kind;
-use codes::pressure::{Bar20, Bar100};
 use lir::apply::apply;
 use lir::instruction::Op;
 
 pub mod rows;
 
-// The file byte of a kind, the number of an op, two codes, and the code that they give.
+// An op, two codes, and the code that they give.
 #[derive(Clone, Copy)]
-pub struct Row(pub u8, pub u8, pub u32, pub u32, pub u32);
+pub struct Row(pub Op, pub u32, pub u32, pub u32);
 
-fn op_of(number: u8) -> Option<Op> {
-    match number {
-        2 => Some(Op::Add),
-        3 => Some(Op::Sub),
-        4 => Some(Op::Mul),
-        5 => Some(Op::And),
-        6 => Some(Op::Or),
-        7 => Some(Op::Xor),
-        10 => Some(Op::Eq),
-        11 => Some(Op::Lt),
-        _ => None,
-    }
-}
-
-// What the library computes for a row, or none where the row names no kind or op.
-pub fn computed(row: Row) -> Option<u32> {
-    let Row(kind, number, p, q, _) = row;
-    let op = op_of(number)?;
-    let p = Code::new(p);
-    let q = Code::new(q);
-    match kind {
-        0 => Some(apply::<Count>(op, p, q).bits),
-        1 => Some(apply::<Bar20>(op, p, q).bits),
-        2 => Some(apply::<Bar100>(op, p, q).bits),
-        _ => None,
-    }
+// What the library computes for a row.
+pub fn computed<K: Kind>(row: &Row) -> u32 {
+    let Row(op, p, q, _) = *row;
+    apply::<K>(op, Code::new(p), Code::new(q)).bits
 }
 
 #[cfg(test)]
 mod tests {
     use super::*;
+    use codes::count::Count;
+    use codes::pressure::{Bar20, Bar100};
+    use std::process::Abort;
+
+    fn agree<K: Kind>(rt: &impl Abort, rows: &[Row]) {
+        for row in rows {
+            assert_eq!(rt; computed::<K>(row), row.3);
+        }
+    }
 
     #[test]
     fn every_row_agrees(rt: HostRuntime) {
-        for row in rows::ROWS.iter() {
-            assert_eq!(rt; computed(*row), Some(row.4));
-        }
+        agree::<Count>(&rt, &rows::COUNTS);
+        agree::<Bar20>(&rt, &rows::PRESSURES_20);
+        agree::<Bar100>(&rt, &rows::PRESSURES_100);
     }
 
     #[test]
@@ -58,12 +43,9 @@ mod tests {
         assert_eq!(rt; <Count as Kind>::ONE.bits, 1);
         assert_eq!(rt; <Bar20 as Kind>::ONE.bits, 20);
         assert_eq!(rt; <Bar100 as Kind>::ONE.bits, 100);
-        assert_eq!(rt; <Count as Kind>::unit().bits, 1);
-        assert_eq!(rt; <Bar20 as Kind>::unit().bits, 20);
-        assert_eq!(rt; <Bar100 as Kind>::unit().bits, 100);
-        assert_eq!(rt; <Count as Kind>::mark(), 0);
-        assert_eq!(rt; <Bar20 as Kind>::mark(), 1);
-        assert_eq!(rt; <Bar100 as Kind>::mark(), 2);
+        assert_eq!(rt; <Count as Kind>::FILE_BYTE, 0);
+        assert_eq!(rt; <Bar20 as Kind>::FILE_BYTE, 1);
+        assert_eq!(rt; <Bar100 as Kind>::FILE_BYTE, 2);
     }
 
     #[test]

@@ -7,8 +7,8 @@ use Rattle.codes.specs.declared.cells.Cells.{Cells}
 use Rattle.lir.specs.Instructions.{leaves, gives, values_in}
 use Rattle.lir.specs.Standings.{Standing, going, gone, ended, value_at, effect, run, finished, Going}
 use Rattle.lir.specs.Limits.{index_of}
-use Rattle.lir.specs.declared.bounds.Exit.{Exit}
-use Rattle.lir.specs.declared.bounds.Handle.{Handle}
+use Rattle.lir.specs.Limits.{Exit}
+use Rattle.lir.specs.Limits.{Handle}
 use Rattle.lir.specs.declared.instruction.Instruction.{Instruction}
 use Rattle.lir.specs.declared.instruction.Instruction.TheVariants.{Value as value, Store as store, Guard as guard}
 

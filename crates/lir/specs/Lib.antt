@@ -1,4 +1,5 @@
 pub mod Limits
 pub mod Refusals
 pub mod Instructions
+pub mod Mapping
 pub mod Standings

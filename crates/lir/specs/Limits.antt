@@ -1,24 +1,30 @@
 -- The limits of the numbers that name handles, exits and places.
-use Rattle.std.specs.Prelude.{ℕ, ◌%◌, Option}
-use Rattle.std.proofs.Common.{arith}
-use Rattle.codes.specs.Bounds.{within}
-use Rattle.lir.specs.declared.bounds.Handle.{Handle}
-use Rattle.lir.specs.declared.bounds.Exit.{Exit}
-use Rattle.lir.specs.declared.bounds.Place.{Place}
+use Rattle.std.specs.Prelude.{ℕ, Option}
+use Rattle.codes.specs.Bounds.{numbered, wrapped}
+use Rattle.codes.specs.declared.bounds.UpTo.{UpTo}
+
+abbrev pub Handle : Type 0
+Handle = UpTo 1023
+
+abbrev pub Exit : Type 0
+Exit = UpTo 255
+
+abbrev pub Place : Type 0
+Place = UpTo 4095
 
 abbrev pub handle_at : ℕ → Option Handle
-handle_at n = within 1024 n (λ p. record { index = n; small = p })
+handle_at = numbered 1023
 
 abbrev pub exit_at : ℕ → Option Exit
-exit_at n = within 256 n (λ p. record { label = n; small = p })
+exit_at = numbered 255
 
 abbrev pub place_at : ℕ → Option Place
-place_at n = within 4096 n (λ p. record { step = n; small = p })
+place_at = numbered 4095
 
 -- the handle that follows n others
 abbrev pub handle_of : ℕ → Handle
-handle_of n = record { index = n % 1024; small = omega arith }
+handle_of = wrapped 1023
 
--- a run keeps the value of a handle at its index
+-- a run keeps the value of a handle at its number
 abbrev pub index_of : Handle → ℕ
-index_of h = h.index
+index_of h = h.number

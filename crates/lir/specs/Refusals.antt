@@ -2,6 +2,8 @@
 use Rattle.std.specs.Prelude.{ℕ, Bool, cond, List, [], ◌∷◌, Some, None, Option}
 use Rattle.lir.specs.declared.fault.Refusal.{Refusal}
 use Rattle.lir.specs.declared.fault.Refusal.TheVariants.{BadHeader, BadLength, BadRecord, Malformed, Undefined, Ended, Full, ExitOrder, NoSpace, Unsettled, WrongSlip}
+use Rattle.lir.specs.declared.fault.Part.{Part}
+use Rattle.lir.specs.declared.fault.Part.TheVariants.{FileCall, Recording, Buffer, Evaluator, Fold, Range, Guard, Forward, Cse}
 
 abbrev pub number_of : Refusal → ℕ
 number_of BadHeader = 1
@@ -15,6 +17,18 @@ number_of ExitOrder = 8
 number_of NoSpace = 9
 number_of Unsettled = 10
 number_of WrongSlip = 11
+
+-- the parts of the library by theirs
+abbrev pub part_number : Part → ℕ
+part_number FileCall = 0
+part_number Recording = 1
+part_number Buffer = 2
+part_number Evaluator = 3
+part_number Fold = 5
+part_number Range = 6
+part_number Guard = 7
+part_number Forward = 8
+part_number Cse = 9
 
 -- checks are listed in the order in which they are made, each with whether it holds; the first that does not decides
 abbrev pub failing : List (Refusal × Bool) → Option Refusal

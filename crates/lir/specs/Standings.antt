@@ -7,7 +7,7 @@ use Rattle.codes.specs.Bounds.{low_cell}
 use Rattle.codes.specs.declared.bounds.Code.{Code}
 use Rattle.codes.specs.declared.cells.Cells.{Cells}
 use Rattle.lir.specs.Instructions.{names, apply, leaves}
-use Rattle.lir.specs.declared.bounds.Exit.{Exit}
+use Rattle.lir.specs.Limits.{Exit}
 use Rattle.lir.specs.declared.instruction.Instruction.{Instruction}
 use Rattle.lir.specs.declared.instruction.Instruction.TheVariants.{Value as value, Store as store, Guard as guard}
 use Rattle.lir.specs.declared.instruction.Store.{Store}

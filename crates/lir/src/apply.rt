@@ -10,7 +10,7 @@ use codes::kind::Kind;
 fn truth(b: bool) -> Code
     ensures { result ≡ truth b }
 {
-    if b { Code::new(1) } else { Code::new(0) }
+    Code::new(u32::from(b))
 }
 
 pub fn apply<K: Kind>(op: Op, p: Code, q: Code) -> Code
@@ -23,7 +23,7 @@ pub fn apply<K: Kind>(op: Op, p: Code, q: Code) -> Code
         Op::And => Code::new(p.bits & q.bits),
         Op::Or => Code::new(p.bits | q.bits),
         Op::Xor => Code::new(p.bits ^ q.bits),
-        Op::Eq => truth(p.same(q)),
+        Op::Eq => truth(p == q),
         Op::Lt => truth(K::less(p, q)),
     }
 }

@@ -1,23 +1,11 @@
-// Handles, exits and places, each a type that carries its own bound.
-ghost use Rattle.std.specs.Prelude.{◌<◌};
+// What names a handle, an exit or a place.
+use codes::bounds::UpTo;
 
 // The number by which a writer names one of its values.
-#[derive(Clone, Copy)]
-pub struct Handle {
-    pub index: u16,
-    ghost small: { index < 1024 },
-}
+pub type Handle = UpTo<1023>;
 
 // The label of an exit, by which a guard leaves a trace.
-#[derive(Clone, Copy)]
-pub struct Exit {
-    pub label: u16,
-    ghost small: { label < 256 },
-}
+pub type Exit = UpTo<255>;
 
 // The place of an exit: the programme step at which work resumes after it.
-#[derive(Clone, Copy)]
-pub struct Place {
-    pub step: u16,
-    ghost small: { step < 4096 },
-}
+pub type Place = UpTo<4095>;

@@ -31,6 +31,7 @@ fn store_defined<N: Name>(i: &Store<N>, n: u16) -> bool
     }
 }
 
+// Arm by arm: an `all` beside `map` would have this one caller.
 fn lives_defined<N: Name>(lives: &Lives<N>, n: u16) -> bool
     ensures { result ≡ all_known N.Name.number n (names lives.now) }
 {
@@ -60,7 +61,7 @@ pub fn defined<N: Name>(i: &Instruction<N>, n: u16) -> bool
     }
 }
 
-// How many values an instruction gives: one or none.
+// How many values an instruction gives: one or none. A number, since counts rise by it.
 pub fn gives<N>(i: &Instruction<N>) -> u16
     ensures { result ≡ gives i.now }
 {

@@ -1,54 +1,59 @@
-// Refusals, and the faults by which they are reported.
+// Refusals, the parts of the library, and the faults by which refusals are reported.
 ghost use Rattle.std.specs.Prelude.{◌≡◌};
-ghost use Rattle.lir.specs.Refusals.{number_of};
+ghost use Rattle.lir.specs.Refusals.{number_of, part_number};
 
-// Why a call is refused.
-#[derive(Clone, Copy, Debug)]
+// Why a call is refused, with the number by which callers know it.
+#[derive(Clone, Copy, Debug, PartialEq, Eq)]
 pub enum Refusal {
-    BadHeader,
-    BadLength,
-    BadRecord,
-    Malformed,
-    Undefined,
-    Ended,
-    Full,
-    ExitOrder,
-    NoSpace,
-    Unsettled,
-    WrongSlip,
+    BadHeader = 1,
+    BadLength = 2,
+    BadRecord = 3,
+    Malformed = 4,
+    Undefined = 5,
+    Ended = 6,
+    Full = 7,
+    ExitOrder = 8,
+    NoSpace = 9,
+    Unsettled = 10,
+    WrongSlip = 11,
 }
 
 impl Refusal {
-    // The number by which callers know a refusal.
+    // A method and no `From`, so that what a number is a number of stands where it is asked for; so for a part.
     pub fn number(self) -> u8
         ensures { result ≡ number_of self }
     {
-        match self {
-            Refusal::BadHeader => 1,
-            Refusal::BadLength => 2,
-            Refusal::BadRecord => 3,
-            Refusal::Malformed => 4,
-            Refusal::Undefined => 5,
-            Refusal::Ended => 6,
-            Refusal::Full => 7,
-            Refusal::ExitOrder => 8,
-            Refusal::NoSpace => 9,
-            Refusal::Unsettled => 10,
-            Refusal::WrongSlip => 11,
-        }
+        self as u8
+    }
+}
+
+// A part of the library that refuses calls, with the number by which faults name it.
+#[derive(Clone, Copy, Debug, PartialEq, Eq)]
+pub enum Part {
+    FileCall = 0,
+    Recording = 1,
+    Buffer = 2,
+    Evaluator = 3,
+    Fold = 5,
+    Range = 6,
+    Guard = 7,
+    Forward = 8,
+    Cse = 9,
+}
+
+impl Part {
+    pub fn number(self) -> u8
+        ensures { result ≡ part_number self }
+    {
+        self as u8
     }
 }
 
 // A refusal with the part of the library that gave it, and how much that part had accepted by then.
 // It travels up from where it arose unchanged.
-#[derive(Clone, Copy, Debug)]
+#[derive(Clone, Copy, Debug, PartialEq, Eq)]
 pub struct Fault {
     pub refusal: Refusal,
-    pub part: u8,
+    pub part: Part,
     pub place: u64,
 }
-
-// The parts of the library, by the numbers that faults name them with.
-pub const BUFFER_PART: u8 = 2;
-
-pub const EVALUATOR_PART: u8 = 3;

@@ -2,17 +2,17 @@
 use crate::bounds::Exit;
 use codes::bounds::{Cell, Code};
 
-// The pure instructions of two operands.
+// The pure instructions of two operands, with the numbers by which calls name them.
 #[derive(Clone, Copy)]
 pub enum Op {
-    Add,
-    Sub,
-    Mul,
-    And,
-    Or,
-    Xor,
-    Eq,
-    Lt,
+    Add = 2,
+    Sub = 3,
+    Mul = 4,
+    And = 5,
+    Or = 6,
+    Xor = 7,
+    Eq = 10,
+    Lt = 11,
 }
 
 // What gives a value.
@@ -39,8 +39,9 @@ pub enum Test {
     Xge(Code),
 }
 
-// The values that an exit reports, at most four.
-#[derive(Clone, Copy)]
+// The values that an exit reports, at most four. An array with a count beside it could hold more than it counts, and a
+// vector could not be copied with its guard.
+#[derive(Clone, Copy, Debug, PartialEq, Eq)]
 pub enum Lives<N> {
     Zero,
     One(N),

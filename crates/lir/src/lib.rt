@@ -8,3 +8,5 @@ pub mod fault;
 pub mod instruction;
 pub mod lives;
 pub mod names;
+pub mod text;
+pub mod value_number;

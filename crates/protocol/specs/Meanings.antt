@@ -7,9 +7,10 @@ use Rattle.lir.specs.Limits.{index_of}
 use Rattle.lir.specs.declared.instruction.Instruction.{Instruction}
 use Rattle.lir.specs.declared.instruction.Instruction.TheVariants.{Value as value, Store as store, Guard as guard}
 use Rattle.lir.specs.Standings.{Standing, Going, value_of, value_at, effect, finished}
-use Rattle.lir.specs.declared.bounds.Handle.{Handle}
+use Rattle.lir.specs.Limits.{Handle}
 use Rattle.codes.specs.declared.cells.Cells.{Cells}
 use Rattle.lir.specs.declared.fault.Fault.{Fault}
+use Rattle.lir.specs.declared.fault.Part.{Part}
 use Rattle.lir.specs.declared.fault.Refusal.{Refusal}
 use Rattle.lir.specs.declared.fault.Refusal.TheVariants.{Undefined, Ended, NoSpace}
 use Rattle.lir.specs.declared.instruction.Value.{Value}
@@ -31,7 +32,12 @@ pub data Answer : Type 0 where
   done : Answer
   refused : Fault → Answer
 
--- a method's result as an answer
+-- a call's result as an answer
+abbrev pub answered : Result (Option Handle) Fault → Answer
+answered (Ok (Some h)) = handle h
+answered (Ok None) = done
+answered (Err f) = refused f
+
 abbrev pub handled : Result Handle Fault → Answer
 handled (Ok h) = handle h
 handled (Err f) = refused f
@@ -39,6 +45,21 @@ handled (Err f) = refused f
 abbrev pub settled : Result (Unit {0}) Fault → Answer
 settled (Ok u) = done
 settled (Err f) = refused f
+
+-- a value that is accepted is answered by a handle, and nothing else is
+abbrev pub Fitting : Order → Answer → Type 0
+Fitting (instruct (value i)) (handle h) = Unit {0}
+Fitting (instruct (value i)) done = ⊥
+Fitting (instruct (value i)) (refused f) = Unit {0}
+Fitting (instruct (store i)) (handle h) = ⊥
+Fitting (instruct (store i)) done = Unit {0}
+Fitting (instruct (store i)) (refused f) = Unit {0}
+Fitting (instruct (guard g)) (handle h) = ⊥
+Fitting (instruct (guard g)) done = Unit {0}
+Fitting (instruct (guard g)) (refused f) = Unit {0}
+Fitting end (handle h) = ⊥
+Fitting end done = Unit {0}
+Fitting end (refused f) = Unit {0}
 
 -- a going run has one value to each handle
 abbrev pub Coherent : Meaning → Type 0
@@ -55,16 +76,16 @@ foot_refusal m (instruct i) = first (refusal m (instruct i)) (failing ((NoSpace,
 foot_refusal m end = refusal m end
 
 -- a refusal as the fault of a part that has taken so many
-abbrev pub fault_of : ℕ → Meaning → Refusal → Fault
+abbrev pub fault_of : Part → Meaning → Refusal → Fault
 fault_of part m r = record { refusal = r; part = part; place = m.taken }
 
 module _ (k : Arithmetic) where
   -- a value call i answered by h: a new handle, or one that has had the value all along
   abbrev pub Fresh : Value Handle → Handle → Meaning → Meaning → Type 0
-  Fresh i h m m' = (h.index ≡ m.handles) × (m'.handles ≡ m.handles + 1) × ((s : Cells) → m'.standing s ≡ effect index_of k (value i) (m.standing s))
+  Fresh i h m m' = (h.number ≡ m.handles) × (m'.handles ≡ m.handles + 1) × ((s : Cells) → m'.standing s ≡ effect index_of k (value i) (m.standing s))
 
   abbrev pub Found : Value Handle → Handle → Meaning → Meaning → Type 0
-  Found i h m m' = (h.index < m.handles) × (m'.handles ≡ m.handles)
+  Found i h m m' = (h.number < m.handles) × (m'.handles ≡ m.handles)
       × ((s : Cells) → (m'.standing s ≡ m.standing s) × Going (λ vs cs. value_at index_of vs h ≡ value_of k (value_at index_of vs) cs i) (m.standing s))
 
   abbrev pub Carried : Instruction Handle → Meaning → Meaning → Type 0
@@ -98,7 +119,7 @@ module _ (k : Arithmetic) where
     pub over : m'.over ≡ true
 
   -- part is the writer's own; full is the fault of a full pile
-  module _ (part : ℕ) (full : Fault) where
+  module _ (part : Part) (full : Fault) where
     -- refused by the first check that fails, as the writer's own fault
     abbrev pub Own : Order → Fault → Meaning → Type 0
     Own o f m = (refusal m o ≡ Some f.refusal) × (f ≡ fault_of part m f.refusal)

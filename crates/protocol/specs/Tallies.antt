@@ -1,6 +1,7 @@
 -- What a pile has counted: what its foot has taken, and what each layer has saved.
 use Rattle.std.specs.Prelude.{◌≡◌, ℕ, ◌+◌, ◌%◌, ◌^◌, ◌<◌, List, [], ◌∷◌, length, Some, None, Option, slice_index, slice_set}
 use Rattle.lir.specs.declared.fault.Fault.{Fault}
+use Rattle.lir.specs.declared.fault.Part.{Part}
 use Rattle.lir.specs.declared.fault.Refusal.TheVariants.{NoSpace}
 use Rattle.protocol.specs.Meanings.{Order, instruct, end, Answer, handle, done, refused}
 
@@ -33,5 +34,5 @@ abbrev pub total : Tally → ℕ
 total t = t.foot + sum t.saved
 
 -- the fault of a full pile is its foot's
-abbrev pub full_at : ℕ → Tally → Fault
+abbrev pub full_at : Part → Tally → Fault
 full_at foot t = record { refusal = NoSpace; part = foot; place = t.foot }

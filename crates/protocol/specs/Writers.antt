@@ -2,8 +2,9 @@
 use Rattle.std.specs.Prelude.{◌≡◌, ℕ, ◌%◌, ◌^◌, cond, Some, None, Ok, Err, Option, Result}
 use Rattle.codes.specs.Kinds.{Arithmetic}
 use Rattle.lir.specs.declared.instruction.Instruction.{Instruction}
-use Rattle.lir.specs.declared.bounds.Handle.{Handle}
+use Rattle.lir.specs.Limits.{Handle}
 use Rattle.lir.specs.declared.fault.Fault.{Fault}
+use Rattle.lir.specs.declared.fault.Part.{Part}
 use Rattle.lir.specs.declared.fault.Refusal.{Refusal}
 use Rattle.lir.specs.declared.fault.Refusal.TheVariants.{Malformed, Ended}
 use Rattle.protocol.specs.Meanings.{Meaning, Order, instruct, end, Answer, refused, Coherent, fault_of, Means}
@@ -11,9 +12,9 @@ use Rattle.protocol.specs.Tallies.{Tally, Credits, total, full_at}
 
 -- what is said of a type of writers
 pub record Writes (W : Type 0) : Type 1 where
-  -- its part number, and that of the foot of its pile
-  pub part : ℕ
-  pub foot : ℕ
+  -- which part of the library it is, and which the foot of its pile is
+  pub part : Part
+  pub foot : Part
   -- what a call does to one, exactly
   pub steps : W → Order → Answer → W → Type 0
   pub meaning : W → Meaning

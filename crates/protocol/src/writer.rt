@@ -2,29 +2,29 @@
 ghost use Rattle.std.specs.Prelude.{◌≡◌};
 ghost use Rattle.lir.specs.declared.instruction.Instruction.TheVariants.{Value as value, Store as store, Guard as guard};
 ghost use Rattle.raw_calls.specs.Calls.{meant, value_call, store_call, guard_call};
-ghost use Rattle.protocol.specs.Meanings.{instruct, end, handled, settled, refusal, foot_refusal};
+ghost use Rattle.lir.specs.declared.fault.Part.{Part};
+ghost use Rattle.protocol.specs.Meanings.{instruct, end, answered, handled, settled, Fitting, refusal, foot_refusal, Order, Answer};
 ghost use Rattle.protocol.specs.Writers.{Writes, Lawful, own_fault, judgement, Judged, malformed, ByNumbers};
 
 use codes::kind::Kind;
 use lir::bounds::Handle;
 use lir::defined::defined;
-use lir::fault::{Fault, Refusal};
+use lir::fault::{Fault, Part, Refusal};
 use lir::instruction::{Guard, Instruction, Store, Value};
 use raw_calls::fields::Fields;
 use raw_calls::read::{read_guard, read_store, read_value};
 
-// `PART` is the number by which faults name the writer; generic code learns nothing of a constant, so
-// `part_number` says it again with a promise. Whoever calls a writer may rely on `writes`: the exact steps of
-// its calls, what it means, and the laws that tie the two.
+// Whoever calls a writer may rely on `writes`: the exact steps of its calls, what it means, and the laws that tie
+// the two.
 pub trait Writer {
     type Kind: Kind;
 
-    const PART: u8;
+    // By which faults name the writer.
+    const PART: Part;
+
+    ghost PART: { Part };
 
     ghost writes: { Writes Self };
-
-    fn part_number() -> u8
-        ensures { result ≡ writes.part };
 
     // Whether the end was taken.
     fn has_ended(&self) -> bool
@@ -42,17 +42,40 @@ pub trait Writer {
     fn space(&self) -> u16
         ensures { result ≡ (writes.meaning self.now).space };
 
-    fn value(&mut self, i: Value<Handle>) -> Result<Handle, Fault>
-        ensures { writes.steps self.old (instruct (value i)) (handled result) self.new };
-
-    fn store(&mut self, i: Store<Handle>) -> Result<(), Fault>
-        ensures { writes.steps self.old (instruct (store i)) (settled result) self.new };
-
-    fn guard(&mut self, g: Guard<Handle>) -> Result<(), Fault>
-        ensures { writes.steps self.old (instruct (guard g)) (settled result) self.new };
+    // Takes an instruction, and answers the handle of the value that it gives, if it gives one.
+    fn take(&mut self, i: Instruction<Handle>) -> Result<Option<Handle>, Fault>
+        ensures { writes.steps self.old (instruct i) (answered result) self.new };
 
     fn end(&mut self) -> Result<(), Fault>
         ensures { writes.steps self.old end (settled result) self.new };
+
+    // One call for each sort: they differ in what they take, and the first in what it answers.
+    fn value(&mut self, i: Value<Handle>) -> Result<Handle, Fault>
+        ensures { writes.steps self.old (instruct (value i)) (handled result) self.new }
+    {
+        match self.take(Instruction::Value(i))? {
+            Some(h) => Ok(h),
+            None => unreachable!(),
+        }
+    }
+
+    fn store(&mut self, i: Store<Handle>) -> Result<(), Fault>
+        ensures { writes.steps self.old (instruct (store i)) (settled result) self.new }
+    {
+        match self.take(Instruction::Store(i))? {
+            Some(_) => unreachable!(),
+            None => Ok(()),
+        }
+    }
+
+    fn guard(&mut self, g: Guard<Handle>) -> Result<(), Fault>
+        ensures { writes.steps self.old (instruct (guard g)) (settled result) self.new }
+    {
+        match self.take(Instruction::Guard(g))? {
+            Some(_) => unreachable!(),
+            None => Ok(()),
+        }
+    }
 
     // A refusal as this writer's own fault.
     fn fault(&self, refusal: Refusal) -> Fault
@@ -60,7 +83,7 @@ pub trait Writer {
     {
         Fault {
             refusal,
-            part: Self::part_number(),
+            part: Self::PART,
             place: self.taken(),
         }
     }
@@ -112,6 +135,7 @@ pub trait Writer {
         }
     }
 
+    // Callers know a call by numbers for each sort, and each answers what its own sort does, so there are three.
     fn raw_value(&mut self, f: Fields<Handle>) -> Result<Handle, Fault>
         ensures { ByNumbers writes self.old (meant value (value_call f)) (handled result) self.new }
     {
@@ -138,6 +162,10 @@ pub trait Writer {
             None => Err(self.malformed()),
         }
     }
+
+    ghost named: { PART ≡ writes.part };
+
+    ghost fitting: { (w w2 : Self) (o : Order) (a : Answer) → writes.steps w o a w2 → Fitting o a };
 
     ghost lawful: { Lawful Self.Kind.Kind.arithmetic writes };
 }

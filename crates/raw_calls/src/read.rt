@@ -18,6 +18,7 @@ fn guard_by<N: Copy>(test: Test, f: Fields<N>, lives: &[N]) -> Option<Instructio
     }))
 }
 
+// The table of all ops, row by row as its definition has it. To read the pure ones by a table of their own would part it.
 // The instruction that a call's numbers mean, or none where its op or one of its fields is out of bounds.
 pub fn read<N: Copy>(f: Fields<N>, lives: &[N]) -> Option<Instruction<N>>
     ensures { result ≡ meaning f lives.now }
@@ -43,7 +44,8 @@ pub fn read<N: Copy>(f: Fields<N>, lives: &[N]) -> Option<Instruction<N>>
     }
 }
 
-// A call takes the instructions of its own sort.
+// A call takes the instructions of its own sort. As conversions of an instruction these would be the same three matches,
+// with an error in place of none.
 pub fn read_value<N: Copy>(f: Fields<N>) -> Option<Value<N>>
     ensures { result ≡ value_call f }
 {

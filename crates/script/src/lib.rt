@@ -8,4 +8,3 @@ pub mod parse;
 pub mod reply;
 pub mod session;
 pub mod words;
-pub mod words_for;

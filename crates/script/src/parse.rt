@@ -8,57 +8,26 @@ use crate::error::{Error, Expected};
 use crate::words::Words;
 use assembly::call::Call;
 use assembly::fields::blank;
-use assembly::kinds::KindName;
 use assembly::mnemonic::{Mnemonic, Sort};
 use bench::command::FootSpec;
 use codes::bounds::Code;
+use itertools::Itertools;
 use lir::bounds::Handle;
 use raw_calls::fields::Fields;
-use std::alloc::Global;
+use std::alloc::{AllocError, Global};
 
 // A line without its comment, its words joined by one blank; empty where it has no word.
-pub fn action(heap: Global, line: &str) -> Result<String, Error> {
-    let text = match line.split_once('#') {
-        Some((before, _)) => before,
-        None => line,
-    };
-    let mut joined = String::new(heap);
-    for word in text.split_whitespace() {
-        if !joined.is_empty() {
-            joined.push(' ')?;
-        }
-        joined.push_str(word)?;
-    }
-    Ok(joined)
-}
-
-fn kind(words: &mut Words) -> Result<KindName, Error> {
-    match words.word(Expected::Kind)? {
-        "count" => Ok(KindName::Count),
-        "bar20" => Ok(KindName::Bar20),
-        "bar100" => Ok(KindName::Bar100),
-        _ => Err(Error::Unread(Expected::Kind)),
-    }
+pub fn action(heap: Global, line: &str) -> Result<String, AllocError> {
+    let text = line.split_once('#').map_or(line, |(before, _)| before);
+    text.split_whitespace().join(heap, " ")
 }
 
 fn foot(words: &mut Words) -> Result<FootSpec, Error> {
     match words.word(Expected::Foot)? {
-        "buffer" => Ok(FootSpec::Buffer(words.number(u16::MAX, Expected::Places)?)),
+        "buffer" => Ok(FootSpec::Buffer(words.read(Expected::Places)?)),
         "evaluator" => Ok(FootSpec::Evaluator),
         _ => Err(Error::Unread(Expected::Foot)),
     }
-}
-
-fn op(words: &mut Words) -> Result<u8, Error> {
-    Ok(words.number(255, Expected::Op)? as u8)
-}
-
-fn cell_number(words: &mut Words) -> Result<u16, Error> {
-    words.number(u16::MAX, Expected::CellNumber)
-}
-
-fn exit(words: &mut Words) -> Result<u16, Error> {
-    words.number(u16::MAX, Expected::Exit)
 }
 
 // The operands of an instruction by name, in the order in which they are written, but for a guard's lives.
@@ -68,41 +37,42 @@ fn operands(name: Mnemonic, words: &mut Words) -> Result<Fields<Handle>, Error>
     let fields = blank(name);
     match name {
         Mnemonic::Imm => Ok(Fields {
-            code: words.code()?,
+            code: words.read(Expected::Code)?,
             ..fields
         }),
         Mnemonic::Binary(_) | Mnemonic::Stx => Ok(Fields {
-            a: words.handle()?,
-            b: words.handle()?,
+            a: words.read(Expected::Handle)?,
+            b: words.read(Expected::Handle)?,
             ..fields
         }),
         Mnemonic::Ld => Ok(Fields {
-            cell: cell_number(words)?,
+            cell: words.read(Expected::CellNumber)?,
             ..fields
         }),
         Mnemonic::Ldx => Ok(Fields {
-            a: words.handle()?,
+            a: words.read(Expected::Handle)?,
             ..fields
         }),
         Mnemonic::St => Ok(Fields {
-            a: words.handle()?,
-            cell: cell_number(words)?,
+            a: words.read(Expected::Handle)?,
+            cell: words.read(Expected::CellNumber)?,
             ..fields
         }),
         Mnemonic::Xt | Mnemonic::Xf => Ok(Fields {
-            a: words.handle()?,
-            exit: exit(words)?,
+            a: words.read(Expected::Handle)?,
+            exit: words.read(Expected::Exit)?,
             ..fields
         }),
         Mnemonic::Xge => Ok(Fields {
-            a: words.handle()?,
-            code: words.code()?,
-            exit: exit(words)?,
+            a: words.read(Expected::Handle)?,
+            code: words.read(Expected::Code)?,
+            exit: words.read(Expected::Exit)?,
             ..fields
         }),
     }
 }
 
+// Each sort of call has a form of its own, so it is a match.
 fn by_name(heap: Global, name: Mnemonic, words: &mut Words) -> Result<Call, Error>
     ensures { IfOk result (λ call. Intended name call) }
 {
@@ -114,50 +84,37 @@ fn by_name(heap: Global, name: Mnemonic, words: &mut Words) -> Result<Call, Erro
     }
 }
 
-// The raw forms say every field that a call of their sort can use.
+// The raw forms say every field that a call of their sort can use, in the order in which they are written here.
 fn raw_value(words: &mut Words) -> Result<Call, Error> {
-    let op = op(words)?;
-    let a = words.handle()?;
-    let b = words.handle()?;
-    let cell = cell_number(words)?;
-    let code = words.code()?;
     Ok(Call::Value(Fields {
-        op,
-        a,
-        b,
-        cell,
-        code,
+        op: words.read(Expected::Op)?,
+        a: words.read(Expected::Handle)?,
+        b: words.read(Expected::Handle)?,
+        cell: words.read(Expected::CellNumber)?,
+        code: words.read(Expected::Code)?,
         exit: 0,
     }))
 }
 
 fn raw_store(words: &mut Words) -> Result<Call, Error> {
-    let op = op(words)?;
-    let a = words.handle()?;
-    let cell = cell_number(words)?;
-    let b = words.handle()?;
     Ok(Call::Store(Fields {
-        op,
-        a,
-        b,
-        cell,
+        op: words.read(Expected::Op)?,
+        a: words.read(Expected::Handle)?,
+        cell: words.read(Expected::CellNumber)?,
+        b: words.read(Expected::Handle)?,
         code: Code::new(0),
         exit: 0,
     }))
 }
 
 fn raw_guard(heap: Global, words: &mut Words) -> Result<Call, Error> {
-    let op = op(words)?;
-    let a = words.handle()?;
-    let code = words.code()?;
-    let exit = exit(words)?;
     let fields = Fields {
-        op,
-        a,
+        op: words.read(Expected::Op)?,
+        a: words.read(Expected::Handle)?,
+        code: words.read(Expected::Code)?,
+        exit: words.read(Expected::Exit)?,
         b: Handle::nth(0),
         cell: 0,
-        code,
-        exit,
     };
     Ok(Call::Guard(fields, words.handles(heap)?))
 }
@@ -168,16 +125,18 @@ fn call(heap: Global, word: &str, words: &mut Words) -> Result<Call, Error> {
         "store" => raw_store(words),
         "guard" => raw_guard(heap, words),
         "end" => Ok(Call::End),
-        _ => match Mnemonic::named(word) {
-            Some(name) => by_name(heap, name, words),
-            None => Err(Error::Unread(Expected::Action)),
-        },
+        _ => {
+            let name = word
+                .parse::<Mnemonic>()
+                .map_err(|_| Error::Unread(Expected::Action))?;
+            by_name(heap, name, words)
+        }
     }
 }
 
 fn work(heap: Global, word: &str, words: &mut Words) -> Result<Work, Error> {
     match word {
-        "cell" => Ok(Work::Cell(words.cell()?, words.code()?)),
+        "cell" => Ok(Work::Cell(words.read(Expected::Cell)?, words.read(Expected::Code)?)),
         "foot" => Ok(Work::Foot(foot(words)?)),
         "run" => Ok(Work::Run),
         "ask" => Ok(Work::Ask),
@@ -189,7 +148,7 @@ fn work(heap: Global, word: &str, words: &mut Words) -> Result<Work, Error> {
 pub fn command(heap: Global, text: &str) -> Result<Command, Error> {
     let mut words = Words::new(text);
     let command = match words.word(Expected::Action)? {
-        "kind" => Command::Kind(kind(&mut words)?),
+        "kind" => Command::Kind(words.read(Expected::Kind)?),
         word => Command::Work(work(heap, word, &mut words)?),
     };
     words.done()?;

@@ -1,6 +1,6 @@
 // What has been chosen so far, and what a command does to it.
 ghost use Rattle.std.specs.Prelude.{◌≡◌};
-ghost use Rattle.script.specs.Sessions.{Worked, begun, Done, Stepped, KeptIfStopped};
+ghost use Rattle.script.specs.Sessions.{Worked, unchosen, begun, Done, Stepped, KeptIfStopped};
 
 use crate::command::{Command, Work};
 use crate::error::Error;
@@ -11,18 +11,22 @@ use codes::count::Count;
 use codes::kind::Kind;
 use codes::pressure::{Bar20, Bar100};
 use std::alloc::Global;
-use std::mem;
 
-// No kind is chosen yet, or one is, with its bench.
+// A bench of one of the kinds.
 #[derive(Drop)]
-pub enum Session {
-    Fresh,
+pub enum AnyBench {
     Count(Bench<Count>),
     Bar20(Bench<Bar20>),
     Bar100(Bench<Bar100>),
 }
 
-// What is done on a bench, whatever its kind.
+// The bench of the kind that was chosen, once one is. Steps are lent the heap, as benches are.
+#[derive(Drop)]
+pub struct Session {
+    pub bench: Option<AnyBench>,
+}
+
+// What is done on a bench, whatever its kind. A match, since each sort of work holds what its own arm needs.
 fn work_on<K: Kind>(bench: &mut Bench<K>, heap: Global, work: &Work) -> Result<Reply, Error>
     ensures { Worked K.Kind.arithmetic bench.old work.now result bench.new }
 {
@@ -36,37 +40,34 @@ fn work_on<K: Kind>(bench: &mut Bench<K>, heap: Global, work: &Work) -> Result<R
 }
 
 impl Session {
+    // No kind is chosen yet.
+    pub fn new() -> Session
+        ensures { result ≡ unchosen }
+    {
+        Session { bench: None }
+    }
+
+    // No `From`: a session is not what a kind's name becomes, but begins with it.
     pub fn of(kind: KindName) -> Session
         ensures { result ≡ begun kind }
     {
-        match kind {
-            KindName::Count => Session::Count(Bench::new(kind)),
-            KindName::Bar20 => Session::Bar20(Bench::new(kind)),
-            KindName::Bar100 => Session::Bar100(Bench::new(kind)),
-        }
+        let bench = match kind {
+            KindName::Count => AnyBench::Count(Bench::new(kind)),
+            KindName::Bar20 => AnyBench::Bar20(Bench::new(kind)),
+            KindName::Bar100 => AnyBench::Bar100(Bench::new(kind)),
+        };
+        Session { bench: Some(bench) }
     }
 
-    // The bench is taken out for the work and put back.
+    // Each arm is `work_on` in another kind. One `dyn` for the three would put each bench into a box of its own.
     fn work(&mut self, heap: Global, work: &Work) -> Result<Reply, Error>
         ensures { Done self.old work.now result self.new }
     {
-        match mem::replace(self, Session::Fresh) {
-            Session::Fresh => Err(Error::NoKind),
-            Session::Count(mut bench) => {
-                let reply = work_on(&mut bench, heap, work);
-                *self = Session::Count(bench);
-                reply
-            }
-            Session::Bar20(mut bench) => {
-                let reply = work_on(&mut bench, heap, work);
-                *self = Session::Bar20(bench);
-                reply
-            }
-            Session::Bar100(mut bench) => {
-                let reply = work_on(&mut bench, heap, work);
-                *self = Session::Bar100(bench);
-                reply
-            }
+        match &mut self.bench {
+            None => Err(Error::NoKind),
+            Some(AnyBench::Count(bench)) => work_on(bench, heap, work),
+            Some(AnyBench::Bar20(bench)) => work_on(bench, heap, work),
+            Some(AnyBench::Bar100(bench)) => work_on(bench, heap, work),
         }
     }
 

@@ -6,10 +6,7 @@ use std::alloc::Global;
 use std::process::Abort;
 
 fn fault(heap: Global, mut session: Session, line: &str) -> Option<Error> {
-    match session.line(heap, line) {
-        Ok(_) => None,
-        Err(error) => Some(error),
-    }
+    session.line(heap, line).err()
 }
 
 fn unread(rt: &impl Abort, heap: Global, line: &str, expected: Expected) {
@@ -47,7 +44,7 @@ fn numbers_are_checked(rt: HostRuntime) {
 fn a_kind_and_a_foot_come_first(rt: HostRuntime) {
     let heap = rt.alloc();
     assert_eq!(rt;
-        fault(heap, Session::Fresh, "foot evaluator"),
+        fault(heap, Session::new(), "foot evaluator"),
         Some(Error::NoKind)
     );
     assert_eq!(rt;
@@ -58,5 +55,5 @@ fn a_kind_and_a_foot_come_first(rt: HostRuntime) {
         fault(heap, Session::of(KindName::Bar20), "cell 63 -1"),
         None
     );
-    assert_eq!(rt; fault(heap, Session::Fresh, "  # only a comment"), None);
+    assert_eq!(rt; fault(heap, Session::new(), "  # only a comment"), None);
 }

@@ -1,17 +1,16 @@
 -- Worked cases: sums, differences and products of two kinds, and a trace of a press from two starts.
-use Rattle.std.specs.Prelude.{List, [], ◌∷◌, Bool, true, false, ◌&&◌, ℕ, ◌-◌, ◌%◌, ◌^◌, eqb}
-use Rattle.std.proofs.Common.{arith}
-use Rattle.codes.specs.Bounds.{low_cell}
+use Rattle.std.specs.Prelude.{List, [], ◌∷◌, Bool, true, false, ◌&&◌, ℕ, ◌-◌, ◌^◌, eqb}
+use Rattle.codes.specs.Bounds.{low_cell, wrapped}
 use Rattle.codes.specs.Codes.{code}
 use Rattle.codes.specs.Contents.{blank, code_in, written}
 use Rattle.codes.specs.Counts.{count}
 use Rattle.codes.specs.Pressures.{pressure}
-use Rattle.codes.specs.declared.bounds.Cell.{Cell}
+use Rattle.codes.specs.Bounds.{Cell}
 use Rattle.codes.specs.declared.bounds.Code.{Code}
 use Rattle.lir.specs.Standings.{Standing, going, gone, ended}
 use Rattle.lir.specs.Limits.{handle_of}
-use Rattle.lir.specs.declared.bounds.Exit.{Exit}
-use Rattle.lir.specs.declared.bounds.Handle.{Handle}
+use Rattle.lir.specs.Limits.{Exit}
+use Rattle.lir.specs.Limits.{Handle}
 use Rattle.lir.specs.declared.instruction.Instruction.{Instruction}
 use Rattle.lir.specs.declared.instruction.Instruction.TheVariants.{Value as value, Store as store, Guard as guard}
 use Rattle.lir.specs.declared.instruction.Op.TheVariants.{Add, Mul}
@@ -43,7 +42,7 @@ abbrev pub cell : ℕ → Cell
 cell n = low_cell (code n)
 
 abbrev pub exit : ℕ → Exit
-exit n = record { label = n % 256; small = omega arith }
+exit n = wrapped 255 n
 
 -- the run has ended with a code in a cell
 abbrev pub ended_with : Cell → Code → Standing → Bool
@@ -54,7 +53,7 @@ ended_with k p (ended cs) = is (code_in cs k) p
 -- the run has left by an exit and reports some codes
 abbrev pub left_with : ℕ → List Code → Standing → Bool
 left_with n ps (going vs cs) = false
-left_with n ps (gone e ls cs) = eqb e.label n && are ls ps
+left_with n ps (gone e ls cs) = eqb e.number n && are ls ps
 left_with n ps (ended cs) = false
 
 -- a pressure in cell 3 is multiplied by one bar and added to itself; from 250 steps on for the product, or 300 for the pressure, the trace is left;

@@ -9,7 +9,7 @@ use Rattle.lir.specs.Standings.{Standing, going, effect, run, finished}
 use Rattle.protocol.specs.Meanings.{instruct, end, Accepted, refusal}
 use Rattle.protocol.specs.Writers.{Lawful}
 use Rattle.lir.specs.Limits.{index_of}
-use Rattle.lir.specs.declared.bounds.Handle.{Handle}
+use Rattle.lir.specs.Limits.{Handle}
 use Rattle.lir.specs.declared.fault.Refusal.TheVariants.{Undefined}
 use Rattle.lir.specs.declared.instruction.Instruction.{Instruction}
 use Rattle.lir.specs.declared.instruction.Instruction.TheVariants.{Value as value, Store as store, Guard as guard}

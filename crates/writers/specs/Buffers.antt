@@ -7,8 +7,9 @@ use Rattle.lir.specs.Standings.{Standing, going, run, finished}
 use Rattle.protocol.specs.Meanings.{Meaning, Order, instruct, end}
 use Rattle.protocol.specs.Writers.{Writes}
 use Rattle.lir.specs.Limits.{index_of}
-use Rattle.lir.specs.declared.bounds.Handle.{Handle}
+use Rattle.lir.specs.Limits.{Handle}
 use Rattle.lir.specs.declared.instruction.Instruction.{Instruction}
+use Rattle.lir.specs.declared.fault.Part.TheVariants.{Buffer as buffer_part}
 use Rattle.writers.specs.Feet.{Foot, foot_writes}
 use Rattle.writers.specs.declared.buffer.Buffer.{Buffer}
 
@@ -48,7 +49,7 @@ abbrev pub buffer_sound : Kept → Type 0
 buffer_sound b = (length b.instructions ≤ b.places) × (b.places ≤ 1024)
 
 abbrev pub buffer_foot : Arithmetic → Foot Kept
-buffer_foot k = record { part = 2; meaning = buffer_meaning k; after = after }
+buffer_foot k = record { part = buffer_part; meaning = buffer_meaning k; after = after }
 
 abbrev pub buffers : {K : Type 0} → Arithmetic → Writes (Buffer K)
 buffers k = foot_writes (buffer_foot k) viewed buffer_sound

@@ -4,7 +4,7 @@ use Rattle.std.proofs.Common.{inl, inr, arith}
 use Rattle.codes.specs.Kinds.{Arithmetic}
 use Rattle.protocol.specs.Meanings.{instruct, Accepted, refusal}
 use Rattle.protocol.specs.Writers.{Lawful}
-use Rattle.lir.specs.declared.bounds.Handle.{Handle}
+use Rattle.lir.specs.Limits.{Handle}
 use Rattle.lir.specs.declared.instruction.Instruction.{Instruction}
 use Rattle.lir.specs.declared.instruction.Instruction.TheVariants.{Value as value, Store as store, Guard as guard}
 use Rattle.writers.specs.Feet.{answer}

@@ -7,6 +7,7 @@ use Rattle.lir.specs.Standings.{Standing, going, effect, finished, Going}
 use Rattle.protocol.specs.Meanings.{Meaning, Order, instruct, end}
 use Rattle.protocol.specs.Writers.{Writes}
 use Rattle.lir.specs.Limits.{index_of}
+use Rattle.lir.specs.declared.fault.Part.TheVariants.{Evaluator as evaluator_part}
 use Rattle.writers.specs.Feet.{Foot, foot_writes}
 use Rattle.writers.specs.Machines.{stands}
 use Rattle.writers.specs.declared.evaluator.Evaluator.{Evaluator}
@@ -36,7 +37,7 @@ abbrev pub eval_sound : Evaluation → Type 0
 eval_sound e = Going (λ vs cs. length vs ≡ e.handles) e.standing × (e.handles ≤ 1024) × (e.taken < 2 ^ 64)
 
 abbrev pub eval_foot : Arithmetic → Foot Evaluation
-eval_foot k = record { part = 3; meaning = eval_meaning; after = after k }
+eval_foot k = record { part = evaluator_part; meaning = eval_meaning; after = after k }
 
 abbrev pub evaluates : {K : Type 0} → Arithmetic → Writes (Evaluator K)
 evaluates k = foot_writes (eval_foot k) viewed eval_sound

@@ -3,10 +3,11 @@ use Rattle.std.specs.Prelude.{◌≡◌, ℕ, ◌^◌, ◌<◌, [], ◌∷◌, S
 use Rattle.std.proofs.Common.{sym, ap, subst, inl, inr, arith, ltb-true, ltb-false}
 use Rattle.codes.specs.Kinds.{Arithmetic}
 use Rattle.lir.specs.Refusals.{failing}
-use Rattle.protocol.specs.Meanings.{Meaning, Order, instruct, end, Answer, refused, Coherent, Means, Accepted, Finished, refusal, foot_refusal, fault_of}
+use Rattle.protocol.specs.Meanings.{Meaning, Order, instruct, end, Answer, refused, Fitting, Coherent, Means, Accepted, Finished, refusal, foot_refusal, fault_of}
 use Rattle.protocol.specs.Tallies.{Tally, Credits, full_at}
 use Rattle.protocol.specs.Writers.{credit_to, Lawful}
-use Rattle.lir.specs.declared.bounds.Handle.{Handle}
+use Rattle.lir.specs.Limits.{Handle}
+use Rattle.lir.specs.declared.fault.Fault.{Fault}
 use Rattle.lir.specs.declared.fault.Refusal.{Refusal}
 use Rattle.lir.specs.declared.fault.Refusal.TheVariants.{NoSpace}
 use Rattle.lir.specs.declared.instruction.Instruction.{Instruction}
@@ -29,6 +30,27 @@ pub passes : (m : Meaning) (i : Instruction Handle) → foot_refusal m (instruct
 passes m i e =
     let p = first_passes (refusal m (instruct i)) (failing ((NoSpace, nat_lt 0 m.space) ∷ [])) e in
     (p.0, ltb-true 0 m.space (check_passes NoSpace (nat_lt 0 m.space) p.1))
+
+-- a foot answers by a handle where a value is asked for, and not elsewhere
+fitting_answer : (m : Meaning) (o : Order) → Fitting o (answer m o)
+fitting_answer m (instruct (value i)) = tt
+fitting_answer m (instruct (store i)) = tt
+fitting_answer m (instruct (guard g)) = tt
+fitting_answer m end = tt
+
+fitting_refused : (o : Order) (e : Fault) → Fitting o (refused e)
+fitting_refused (instruct (value i)) e = tt
+fitting_refused (instruct (store i)) e = tt
+fitting_refused (instruct (guard g)) e = tt
+fitting_refused end e = tt
+
+module _ {S : Type 0} (f : Foot S) (sound : S → Type 0) where
+  fitting : (v : Option Refusal) (s s' : S) (o : Order) (a : Answer) → Decided f v s o a s' → Fitting o a
+  fitting None s s' o a d = subst (λ b. Fitting o b) (sym d.0) (fitting_answer (f.meaning s) o)
+  fitting (Some r) s s' o a d = subst (λ b. Fitting o b) (sym d.0) (fitting_refused o _)
+
+  pub foot_fitting : {W : Type 0} (seen : W → S) (w w' : W) (o : Order) (a : Answer) → (foot_writes f seen sound).steps w o a w' → Fitting o a
+  foot_fitting seen w w' o a d = fitting (foot_refusal (f.meaning (seen w)) o) (seen w) (seen w') o a d
 
 module _ {S : Type 0} (k : Arithmetic) (f : Foot S) (sound : S → Type 0) (g : Grounded k f sound) where
   abbrev tally : S → Tally

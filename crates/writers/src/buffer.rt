@@ -9,7 +9,8 @@ use std::marker::PhantomData;
 pub mod calls;
 pub mod runs;
 
-// Room for all its places is taken at the making. The end takes no place: `over` stands for it.
+// Room for all its places is taken at the making, and the vector may have taken more than `places`. The end takes no
+// place: `over` stands for it. `handles` is what would else be counted anew, through all that is kept, at each call.
 #[derive(Drop)]
 pub struct Buffer<K> {
     kind: PhantomData<K>,

@@ -3,4 +3,5 @@
 
 pub mod buffer;
 pub mod evaluator;
+mod foot;
 pub mod machine;

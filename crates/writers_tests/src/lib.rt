@@ -1,9 +1,10 @@
 // Tests of the two writers at the foot: what each call answers at the edges of what it takes.
 #![tactic(auto)]
 
+use assembly::mnemonic::Sort;
 use codes::bounds::Code;
 use lir::bounds::Handle;
-use lir::fault::Fault;
+use lir::fault::{Fault, Refusal};
 use lir::instruction::Value;
 use protocol::writer::Writer;
 use raw_calls::fields::Fields;
@@ -13,16 +14,8 @@ pub mod calls;
 mod tests;
 pub mod traces;
 
-// The sort of a call.
-#[derive(Clone, Copy)]
-pub enum Sort {
-    Value,
-    Store,
-    Guard,
-}
-
-// A call by its sort, op, operands a and b, cell, exit and number of lives (each the first value), and the number of the
-// refusal that it gets: 0 where it is accepted.
+// A call by its sort, op, operands a and b, cell, exit and number of lives (at most five, each the first value), and the refusal
+// that it gets, if any. The op is a number, since some of these calls name none.
 #[derive(Clone, Copy)]
 pub struct Call(
     pub Sort,
@@ -32,15 +25,15 @@ pub struct Call(
     pub u16,
     pub u16,
     pub usize,
-    pub u8,
+    pub Option<Refusal>,
 );
 
 fn fields(call: Call) -> Fields<Handle> {
     let Call(_, op, a, b, cell, exit, _, _) = call;
     Fields {
         op,
-        a: Handle::nth(a),
-        b: Handle::nth(b),
+        a: Handle::nth(u32::from(a)),
+        b: Handle::nth(u32::from(b)),
         cell,
         code: Code::new(5),
         exit,
@@ -50,34 +43,23 @@ fn fields(call: Call) -> Fields<Handle> {
 // The fault that a call gets, if any.
 pub fn fault_of<W: Writer>(w: &mut W, call: Call) -> Option<Fault> {
     let f = fields(call);
-    let live = Handle::nth(0);
+    // Each sort has a call of its own.
+    let lives = [Handle::nth(0); 5];
     match call.0 {
         Sort::Value => w.raw_value(f).err(),
         Sort::Store => w.raw_store(f).err(),
-        Sort::Guard => match call.6 {
-            0 => w.raw_guard(f, &[]).err(),
-            4 => w.raw_guard(f, &[live, live, live, live]).err(),
-            _ => w.raw_guard(f, &[live, live, live, live, live]).err(),
-        },
+        Sort::Guard => w.raw_guard(f, &lives[..call.6.min(5)]).err(),
     }
 }
 
-// The number of a fault's refusal, 0 where there is none.
-pub fn number_of(fault: Option<Fault>) -> u8 {
-    match fault {
-        Some(f) => f.refusal.number(),
-        None => 0,
-    }
+// Why a call is refused, if it is.
+pub fn refusal_of<W: Writer>(w: &mut W, call: Call) -> Option<Refusal> {
+    fault_of(w, call).map(|fault| fault.refusal)
 }
 
 // Fills a writer with values, at most so many, and answers how many it took.
-pub fn fill<W: Writer>(w: &mut W, most: u16) -> u16 {
-    let mut took: u16 = 0;
-    for n in 0..most {
-        if w.value(Value::Imm(Code::new(n as u32))).is_err() {
-            break;
-        }
-        took = n + 1;
-    }
-    took
+pub fn fill<W: Writer>(w: &mut W, most: u16) -> usize {
+    (0..most)
+        .take_while(|n| w.value(Value::Imm(Code::new(u32::from(*n)))).is_ok())
+        .count()
 }

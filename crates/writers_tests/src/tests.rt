@@ -1,22 +1,25 @@
 // What the feet answer, and where their runs stand.
 use crate::calls::{LISTED, MALFORMED, UNDEFINED, UNUSED};
-use crate::traces::{cell, code_at, guard_on, is_ended, left, start_with, surprises};
-use crate::{fault_of, fill, number_of};
+use crate::traces::{cell, code_at, guard_on, left, start_with, surprises};
+use crate::{fault_of, fill, refusal_of};
 use codes::bounds::Code;
 use codes::cells::Cells;
 use codes::count::Count;
 use codes::pressure::Bar100;
 use lir::bounds::Handle;
+use lir::fault::{Fault, Part, Refusal};
 use lir::instruction::{Op, Store, Test, Value};
 use protocol::writer::Writer;
 use std::process::Abort;
 use std::test::Fail;
 use writers::buffer::Buffer;
 use writers::evaluator::Evaluator;
-use writers::machine::Machine;
+use writers::machine::{Machine, Outcome};
 
 // Two values, then every table; the counts are those of the calls that were accepted.
 fn tables<W: Writer>(rt: &impl Abort, w: &mut W) {
+    assert_eq!(rt; Refusal::Malformed.number(), 4);
+    assert_eq!(rt; Refusal::Undefined.number(), 5);
     assert_eq!(rt; fill(w, 2), 2);
     assert_eq!(rt; surprises(w, &UNDEFINED), 0);
     assert_eq!(rt; surprises(w, &MALFORMED), 0);
@@ -28,30 +31,32 @@ fn tables<W: Writer>(rt: &impl Abort, w: &mut W) {
 
 // After the end every call is refused for it, whatever its numbers, and the questions answer as before.
 fn ends<W: Writer>(rt: &impl Abort, w: &mut W) {
+    assert_eq!(rt; Refusal::Ended.number(), 6);
     let space = w.space();
     assert!(rt; w.end().is_ok());
     assert!(rt; w.has_ended());
-    for call in LISTED.iter() {
-        assert_eq!(rt; number_of(fault_of(w, *call)), 6);
+    for call in LISTED.iter().chain(&MALFORMED) {
+        assert_eq!(rt; refusal_of(w, *call), Some(Refusal::Ended));
     }
-    for call in MALFORMED.iter() {
-        assert_eq!(rt; number_of(fault_of(w, *call)), 6);
-    }
-    assert_eq!(rt; number_of(w.end().err()), 6);
+    assert_eq!(rt;
+        w.end().err().map(|fault| fault.refusal),
+        Some(Refusal::Ended)
+    );
     assert_eq!(rt; w.space(), space);
 }
 
 // At space 0 every instruction is refused as the foot's own, with what it has taken, and end is still accepted.
-fn full<W: Writer>(rt: &impl Abort, w: &mut W, part: u8, took: u16) -> Result<(), Fail> {
-    assert_eq!(rt; fill(w, 2000), took);
+fn full<W: Writer>(rt: &impl Abort, w: &mut W, part: Part, took: u16) -> Result<(), Fail> {
+    assert_eq!(rt; Refusal::NoSpace.number(), 9);
+    assert_eq!(rt; fill(w, 2000), usize::from(took));
     assert_eq!(rt; w.space(), 0);
-    for call in LISTED.iter() {
-        let Some(fault) = fault_of(w, *call) else {
-            return Err(Fail::new("accepted at space 0"));
+    for call in &LISTED {
+        let full = Fault {
+            refusal: Refusal::NoSpace,
+            part,
+            place: u64::from(took),
         };
-        assert_eq!(rt; fault.refusal.number(), 9);
-        assert_eq!(rt; fault.part, part);
-        assert_eq!(rt; fault.place, took as u64);
+        assert_eq!(rt; fault_of(w, *call), Some(full));
     }
     assert_eq!(rt; surprises(w, &MALFORMED), 0);
     assert!(rt; w.end().is_ok());
@@ -95,12 +100,19 @@ fn an_evaluator_takes_what_is_listed(rt: HostRuntime) -> Result<(), Fail> {
 #[test]
 fn full_feet_refuse_all_but_the_end(rt: HostRuntime) -> Result<(), Fail> {
     let heap = rt.alloc();
-    full(&rt, &mut Buffer::<Count>::new(heap, 3)?, 2, 3)?;
-    full(&rt, &mut Buffer::<Count>::new(heap, 65535)?, 2, 1024)?;
+    assert_eq!(rt; Part::Buffer.number(), 2);
+    assert_eq!(rt; Part::Evaluator.number(), 3);
+    full(&rt, &mut Buffer::<Count>::new(heap, 3)?, Part::Buffer, 3)?;
+    full(
+        &rt,
+        &mut Buffer::<Count>::new(heap, 65535)?,
+        Part::Buffer,
+        1024,
+    )?;
     full(
         &rt,
         &mut Evaluator::<Count>::new(heap, &Cells::new())?,
-        3,
+        Part::Evaluator,
         1024,
     )
 }
@@ -109,7 +121,13 @@ fn full_feet_refuse_all_but_the_end(rt: HostRuntime) -> Result<(), Fail> {
 fn a_buffer_of_no_places_takes_the_end_alone(rt: HostRuntime) -> Result<(), Fail> {
     let mut buffer = Buffer::<Count>::new(rt.alloc(), 0)?;
     assert_eq!(rt; fill(&mut buffer, 1), 0);
-    assert_eq!(rt; number_of(buffer.value(Value::Imm(Code::new(5))).err()), 9);
+    assert_eq!(rt;
+        buffer
+            .value(Value::Imm(Code::new(5)))
+            .err()
+            .map(|fault| fault.refusal),
+        Some(Refusal::NoSpace)
+    );
     assert!(rt; buffer.end().is_ok());
     Ok(())
 }
@@ -120,10 +138,10 @@ fn a_kept_trace_runs_from_every_start(rt: HostRuntime) -> Result<(), Fail> {
     pressing(&rt, &mut buffer)?;
     let mut machine = Machine::new(rt.alloc(), &Cells::new())?;
     buffer.run(&start_with(3, 150), &mut machine);
-    assert!(rt; is_ended(machine.outcome()));
+    assert_eq!(rt; machine.outcome(), Outcome::Ended);
     assert_eq!(rt; code_at(&machine, 4), 300);
     buffer.run(&start_with(3, 260), &mut machine);
-    assert_eq!(rt; left(machine.outcome()), Some((0, Some(260))));
+    assert_eq!(rt; machine.outcome(), left(0, 260));
     assert_eq!(rt; code_at(&machine, 4), 0);
     Ok(())
 }
@@ -132,11 +150,11 @@ fn a_kept_trace_runs_from_every_start(rt: HostRuntime) -> Result<(), Fail> {
 fn an_evaluator_runs_from_its_own_start(rt: HostRuntime) -> Result<(), Fail> {
     let mut stays = Evaluator::<Bar100>::new(rt.alloc(), &start_with(3, 150))?;
     pressing(&rt, &mut stays)?;
-    assert!(rt; is_ended(stays.machine().outcome()));
+    assert_eq!(rt; stays.machine().outcome(), Outcome::Ended);
     assert_eq!(rt; code_at(stays.machine(), 4), 300);
     let mut leaves = Evaluator::<Bar100>::new(rt.alloc(), &start_with(3, 260))?;
     pressing(&rt, &mut leaves)?;
-    assert_eq!(rt; left(leaves.machine().outcome()), Some((0, Some(260))));
+    assert_eq!(rt; leaves.machine().outcome(), left(0, 260));
     assert_eq!(rt; code_at(leaves.machine(), 4), 0);
     assert_eq!(rt; leaves.taken(), 9);
     assert_eq!(rt; leaves.handles(), 6);

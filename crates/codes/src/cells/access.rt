@@ -17,12 +17,12 @@ impl Cells {
     pub fn get(&self, from: Cell) -> Code
         ensures { result ≡ code_in self.now from }
     {
-        self.codes[from.index as usize]
+        self.codes[from.number as usize]
     }
 
     pub fn set(&mut self, to: Cell, code: Code)
         ensures { self.new ≡ written self.old «to» code }
     {
-        self.codes[to.index as usize] = code;
+        self.codes[to.number as usize] = code;
     }
 }

@@ -1,16 +1,17 @@
 // The buffer as a writer.
-ghost use Rattle.std.specs.Prelude.{◌≡◌, min, IfOk};
-ghost use Rattle.protocol.specs.Meanings.{instruct};
-ghost use Rattle.writers.specs.Feet.{Taken};
-ghost use Rattle.writers.specs.Buffers.{buffer_foot, buffers, viewed, empty};
+ghost use Rattle.std.specs.Prelude.{◌≡◌, min, IfOk, refl};
+ghost use Rattle.lir.specs.declared.fault.Part.TheVariants.{Buffer as buffer};
+ghost use Rattle.writers.specs.Footing.{foot_fitting};
+ghost use Rattle.writers.specs.Buffers.{buffer_foot, buffer_sound, buffers, viewed, empty};
 ghost use Rattle.writers.specs.Buffering.{buffer_lawful};
 
 use super::Buffer;
+use crate::foot::new_handle;
 use codes::kind::Kind;
 use lir::bounds::Handle;
 use lir::defined::gives;
-use lir::fault::{BUFFER_PART, Fault};
-use lir::instruction::{Guard, Instruction, Store, Value};
+use lir::fault::{Fault, Part};
+use lir::instruction::Instruction;
 use lir::names::HANDLES;
 use protocol::writer::Writer;
 use std::alloc::{AllocError, Global};
@@ -32,30 +33,22 @@ impl<K: Kind> Buffer<K> {
             over: false,
         })
     }
-
-    // Keeps an instruction that passes the checks.
-    fn keep(&mut self, i: Instruction<Handle>) -> Result<(), Fault>
-        ensures { Taken (buffer_foot K.Kind.arithmetic) (viewed self.old) (instruct i) result (viewed self.new) }
-    {
-        self.admit_at_foot(&i)?;
-        self.kept.push_reserved(i);
-        self.handles += gives(&i);
-        Ok(())
-    }
 }
 
 impl<K: Kind> Writer for Buffer<K> {
     type Kind = K;
 
-    const PART: u8 = BUFFER_PART;
+    const PART: Part = Part::Buffer;
+
+    ghost PART = { buffer };
 
     ghost writes = { buffers K.Kind.arithmetic };
 
-    ghost lawful = { buffer_lawful K.Kind.arithmetic };
+    ghost named = { refl };
 
-    fn part_number() -> u8 {
-        BUFFER_PART
-    }
+    ghost fitting = { foot_fitting (buffer_foot K.Kind.arithmetic) buffer_sound viewed };
+
+    ghost lawful = { buffer_lawful K.Kind.arithmetic };
 
     fn has_ended(&self) -> bool {
         self.over
@@ -73,18 +66,12 @@ impl<K: Kind> Writer for Buffer<K> {
         self.places - self.kept.len() as u16
     }
 
-    fn value(&mut self, i: Value<Handle>) -> Result<Handle, Fault> {
-        let h = Handle::nth(self.handles);
-        self.keep(Instruction::Value(i))?;
+    fn take(&mut self, i: Instruction<Handle>) -> Result<Option<Handle>, Fault> {
+        self.admit_at_foot(&i)?;
+        let h = new_handle(&i, self.handles);
+        self.kept.push_reserved(i);
+        self.handles += gives(&i);
         Ok(h)
-    }
-
-    fn store(&mut self, i: Store<Handle>) -> Result<(), Fault> {
-        self.keep(Instruction::Store(i))
-    }
-
-    fn guard(&mut self, g: Guard<Handle>) -> Result<(), Fault> {
-        self.keep(Instruction::Guard(g))
     }
 
     fn end(&mut self) -> Result<(), Fault> {

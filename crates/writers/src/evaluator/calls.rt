@@ -1,18 +1,19 @@
 // The evaluator as a writer.
-ghost use Rattle.std.specs.Prelude.{◌≡◌, IfOk};
-ghost use Rattle.protocol.specs.Meanings.{instruct};
-ghost use Rattle.writers.specs.Feet.{Taken};
-ghost use Rattle.writers.specs.Evaluators.{eval_foot, evaluates, viewed, fresh};
+ghost use Rattle.std.specs.Prelude.{◌≡◌, IfOk, refl};
+ghost use Rattle.lir.specs.declared.fault.Part.TheVariants.{Evaluator as evaluator};
+ghost use Rattle.writers.specs.Footing.{foot_fitting};
+ghost use Rattle.writers.specs.Evaluators.{eval_foot, eval_sound, evaluates, viewed, fresh};
 ghost use Rattle.writers.specs.Evaluating.{eval_lawful};
 
 use super::Evaluator;
+use crate::foot::new_handle;
 use crate::machine::Machine;
 use codes::cells::Cells;
 use codes::kind::Kind;
 use lir::bounds::Handle;
 use lir::defined::gives;
-use lir::fault::{EVALUATOR_PART, Fault};
-use lir::instruction::{Guard, Instruction, Store, Value};
+use lir::fault::{Fault, Part};
+use lir::instruction::Instruction;
 use lir::names::HANDLES;
 use protocol::writer::Writer;
 use std::alloc::{AllocError, Global};
@@ -38,31 +39,22 @@ impl<K: Kind> Evaluator<K> {
     {
         &self.machine
     }
-
-    // Runs an instruction that passes the checks.
-    fn advance(&mut self, i: Instruction<Handle>) -> Result<(), Fault>
-        ensures { Taken (eval_foot K.Kind.arithmetic) (viewed self.old) (instruct i) result (viewed self.new) }
-    {
-        self.admit_at_foot(&i)?;
-        self.machine.step(i);
-        self.handles += gives(&i);
-        self.taken = self.taken.wrapping_add(1);
-        Ok(())
-    }
 }
 
 impl<K: Kind> Writer for Evaluator<K> {
     type Kind = K;
 
-    const PART: u8 = EVALUATOR_PART;
+    const PART: Part = Part::Evaluator;
+
+    ghost PART = { evaluator };
 
     ghost writes = { evaluates K.Kind.arithmetic };
 
-    ghost lawful = { eval_lawful K.Kind.arithmetic };
+    ghost named = { refl };
 
-    fn part_number() -> u8 {
-        EVALUATOR_PART
-    }
+    ghost fitting = { foot_fitting (eval_foot K.Kind.arithmetic) eval_sound viewed };
+
+    ghost lawful = { eval_lawful K.Kind.arithmetic };
 
     fn has_ended(&self) -> bool {
         self.over
@@ -80,18 +72,13 @@ impl<K: Kind> Writer for Evaluator<K> {
         HANDLES - self.handles
     }
 
-    fn value(&mut self, i: Value<Handle>) -> Result<Handle, Fault> {
-        let h = Handle::nth(self.handles);
-        self.advance(Instruction::Value(i))?;
+    fn take(&mut self, i: Instruction<Handle>) -> Result<Option<Handle>, Fault> {
+        self.admit_at_foot(&i)?;
+        let h = new_handle(&i, self.handles);
+        self.machine.step(i);
+        self.handles += gives(&i);
+        self.taken = self.taken.wrapping_add(1);
         Ok(h)
-    }
-
-    fn store(&mut self, i: Store<Handle>) -> Result<(), Fault> {
-        self.advance(Instruction::Store(i))
-    }
-
-    fn guard(&mut self, g: Guard<Handle>) -> Result<(), Fault> {
-        self.advance(Instruction::Guard(g))
     }
 
     fn end(&mut self) -> Result<(), Fault> {

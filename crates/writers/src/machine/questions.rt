@@ -8,7 +8,7 @@ use codes::kind::Kind;
 
 impl<K: Kind> Machine<K> {
     // How the run goes.
-    pub fn outcome(&self) -> Outcome
+    pub fn outcome(&self) -> Outcome<Code>
         ensures { result ≡ self.now.outcome }
     {
         self.outcome

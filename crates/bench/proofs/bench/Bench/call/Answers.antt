@@ -1,17 +1,13 @@
-use Rattle.std.proofs.Common.{sym, refl}
-use Rattle.bench.proofs.Called.{called_buffer, called_evaluator}
+use Rattle.std.proofs.Common.{◌≡◌, Some, refl, rules}
+use Rattle.bench.specs.declared.bench.Foot.TheVariants.{Buffer, Evaluator}
 use Rattle.bench.proofs.bench.Bench.call.Goals as goal
 
-pub returns-in-Buffer : goal.returns-in-Buffer
-returns-in-Buffer g c = record {
-  kind = refl;
-  start = refl;
-  foot = called_buffer g.K.Kind.arithmetic c.args.self.now.foot c.args.call.now c.call-answer.result c.in-Buffer.buffer c.call-answer.new.writer (sym c.in-Buffer.ensures.value) c.call-answer.ensures;
-}
+pub returns-in-Some-Buffer-clause-foot : goal.returns-in-Some-Buffer-clause-foot
+returns-in-Some-Buffer-clause-foot g c =
+    let stands : c.args.self.now.foot ≡ Some (Buffer c.in-Some-Buffer.buffer) = search rules in
+    rw stands (c.call.result, c.call.new.writer, refl, refl, c.call.ensures)
 
-pub returns-in-Evaluator : goal.returns-in-Evaluator
-returns-in-Evaluator g c = record {
-  kind = refl;
-  start = refl;
-  foot = called_evaluator g.K.Kind.arithmetic c.args.self.now.foot c.args.call.now c.call-answer-in-Evaluator.result c.in-Evaluator.evaluator c.call-answer-in-Evaluator.new.writer c.in-Evaluator.start (sym c.in-Evaluator.ensures.value) c.call-answer-in-Evaluator.ensures;
-}
+pub returns-in-Some-Evaluator-clause-foot : goal.returns-in-Some-Evaluator-clause-foot
+returns-in-Some-Evaluator-clause-foot g c =
+    let stands : c.args.self.now.foot ≡ Some (Evaluator c.in-Some-Evaluator.evaluator c.in-Some-Evaluator.field-0-1) = search rules in
+    rw stands (c.call-in-Some-Evaluator.result, c.call-in-Some-Evaluator.new.writer, refl, refl, c.call-in-Some-Evaluator.ensures)
