@@ -58,7 +58,7 @@ impl FromStr for Mnemonic {
 }
 
 impl Mnemonic {
-    // The op's number in a raw call.
+    // The op's number in a raw call. A match, since an enum with a variant that holds something is not cast.
     pub fn number(self) -> u8
         ensures { result ≡ number self }
     {

@@ -88,7 +88,8 @@ impl<K: Kind> Bench<K> {
         }
     }
 
-    // The arms are one call on writers of two types, here as in `run` and `ask`.
+    // The arms are one call on writers of two types, here as in `run` and `ask`: to hide the types takes a box, and a foot
+    // without one is plainer.
     pub fn call(&mut self, call: &Call) -> Result<Answer, Error>
         ensures kind { self.new.kind ≡ self.old.kind }
         ensures start { self.new.start ≡ self.old.start }

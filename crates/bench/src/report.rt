@@ -52,6 +52,7 @@ fn changes(
         .collect(heap)
 }
 
+// The start comes beside the machine, which does not keep it once its run is on.
 pub fn report<K: Kind>(
     heap: Global,
     kind: KindName,

@@ -88,7 +88,8 @@ pub trait Writer {
         }
     }
 
-    // The checks that every writer makes first.
+    // The checks that every writer makes first. Here and below `cases` is the verdict by what each result tells of it, as
+    // proofs of callers take it; one clause for both would be longer than the two.
     fn admit(&self, i: &Instruction<Handle>) -> Result<(), Fault>
         ensures exact { result ≡ judgement writes self.now (refusal (writes.meaning self.now) (instruct i.now)) }
         ensures cases { Judged writes self.now (refusal (writes.meaning self.now) (instruct i.now)) result }

@@ -18,7 +18,8 @@ fn guard_by<N: Copy>(test: Test, f: Fields<N>, lives: &[N]) -> Option<Instructio
     }))
 }
 
-// The table of all ops, row by row as its definition has it. To read the pure ones by a table of their own would part it.
+// The table of all ops, row by row as its definition has it, and in numbers, since any may be handed in. To read the
+// pure ones by a table of their own would part it.
 // The instruction that a call's numbers mean, or none where its op or one of its fields is out of bounds.
 pub fn read<N: Copy>(f: Fields<N>, lives: &[N]) -> Option<Instruction<N>>
     ensures { result ≡ meaning f lives.now }

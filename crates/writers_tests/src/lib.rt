@@ -43,8 +43,8 @@ fn fields(call: Call) -> Fields<Handle> {
 // The fault that a call gets, if any.
 pub fn fault_of<W: Writer>(w: &mut W, call: Call) -> Option<Fault> {
     let f = fields(call);
-    // Each sort has a call of its own.
     let lives = [Handle::nth(0); 5];
+    // Each sort has a call of its own.
     match call.0 {
         Sort::Value => w.raw_value(f).err(),
         Sort::Store => w.raw_store(f).err(),

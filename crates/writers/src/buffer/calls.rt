@@ -66,6 +66,7 @@ impl<K: Kind> Writer for Buffer<K> {
         self.places - self.kept.len() as u16
     }
 
+    // Here and in `end` the feet differ in one line each, and a trait for them would name all these methods again.
     fn take(&mut self, i: Instruction<Handle>) -> Result<Option<Handle>, Fault> {
         self.admit_at_foot(&i)?;
         let h = new_handle(&i, self.handles);
