@@ -1,5 +1,5 @@
 // The words of a line, read one after another. Each reader says what it expected where it fails.
-ghost use Rattle.script.specs.Words.{NextWord, Reads};
+ghost use Rattle.script.specs.Words.{Ends, NextWord, Reads};
 
 use crate::error::{Error, Expected};
 use lir::bounds::Handle;
@@ -44,7 +44,9 @@ impl<'a> Words<'a> {
             .try_collect(heap)
     }
 
-    pub fn done(&mut self) -> Result<(), Error> {
+    pub fn done(&mut self) -> Result<(), Error>
+        ensures { Ends self.old.rest result self.new.rest }
+    {
         match self.rest.next() {
             Some(_) => Err(Error::Unread(Expected::Nothing)),
             None => Ok(()),
