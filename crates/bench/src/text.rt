@@ -25,13 +25,8 @@ impl fmt::Display for Report {
         if self.changes.is_empty() {
             return write!(f, "; no cell changed");
         }
-        // By hand, since what joins items takes memory, and there is none to be had here.
-        let mut before = "; ";
-        for content in &self.changes {
-            write!(f, "{before}{content}")?;
-            before = ", ";
-        }
-        Ok(())
+        write!(f, "; ")?;
+        f.write_joined(self.changes.iter(), ", ")
     }
 }
 

@@ -3,7 +3,7 @@ use Rattle.std.specs.Prelude.{ℕ, Bool, cond, List, [], ◌∷◌, Some, None, 
 use Rattle.lir.specs.declared.fault.Refusal.{Refusal}
 use Rattle.lir.specs.declared.fault.Refusal.TheVariants.{BadHeader, BadLength, BadRecord, Malformed, Undefined, Ended, Full, ExitOrder, NoSpace, Unsettled, WrongSlip}
 use Rattle.lir.specs.declared.fault.Part.{Part}
-use Rattle.lir.specs.declared.fault.Part.TheVariants.{FileCall, Recording, Buffer, Evaluator, Fold, Range, Guard, Forward, Cse}
+use Rattle.lir.specs.declared.fault.Part.TheVariants.{FileCall, Recording, Buffer, Evaluator, Fold, Range, Guard, Forward, Cse, Other}
 
 abbrev pub number_of : Refusal → ℕ
 number_of BadHeader = 1
@@ -18,7 +18,7 @@ number_of NoSpace = 9
 number_of Unsettled = 10
 number_of WrongSlip = 11
 
--- the parts of the library by theirs
+-- the parts of the library by theirs, and any other by its own
 abbrev pub part_number : Part → ℕ
 part_number FileCall = 0
 part_number Recording = 1
@@ -29,6 +29,7 @@ part_number Range = 6
 part_number Guard = 7
 part_number Forward = 8
 part_number Cse = 9
+part_number (Other n) = n
 
 -- checks are listed in the order in which they are made, each with whether it holds; the first that does not decides
 abbrev pub failing : List (Refusal × Bool) → Option Refusal

@@ -27,29 +27,43 @@ impl Refusal {
     }
 }
 
-// A part of the library that refuses calls, with the number by which faults name it.
+// A part that refuses calls, with the number by which faults name it: one of the library's, or a writer from elsewhere by a
+// number of its own.
 #[derive(Clone, Copy, Debug, PartialEq, Eq)]
 pub enum Part {
-    FileCall = 0,
-    Recording = 1,
-    Buffer = 2,
-    Evaluator = 3,
-    Fold = 5,
-    Range = 6,
-    Guard = 7,
-    Forward = 8,
-    Cse = 9,
+    FileCall,
+    Recording,
+    Buffer,
+    Evaluator,
+    Fold,
+    Range,
+    Guard,
+    Forward,
+    Cse,
+    Other(u8),
 }
 
 impl Part {
+    // A match, since an enum with a variant that holds something is not cast.
     pub fn number(self) -> u8
         ensures { result ≡ part_number self }
     {
-        self as u8
+        match self {
+            Part::FileCall => 0,
+            Part::Recording => 1,
+            Part::Buffer => 2,
+            Part::Evaluator => 3,
+            Part::Fold => 5,
+            Part::Range => 6,
+            Part::Guard => 7,
+            Part::Forward => 8,
+            Part::Cse => 9,
+            Part::Other(number) => number,
+        }
     }
 }
 
-// A refusal with the part of the library that gave it, and how much that part had accepted by then.
+// A refusal with the part that gave it, and how much that part had accepted by then.
 // It travels up from where it arose unchanged.
 #[derive(Clone, Copy, Debug, PartialEq, Eq)]
 pub struct Fault {

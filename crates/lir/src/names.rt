@@ -3,8 +3,12 @@ ghost use Rattle.std.specs.Prelude.{◌≡◌, ℕ};
 
 use crate::bounds::Handle;
 
-// How many handles there are.
+// How many there are of each.
 pub const HANDLES: u16 = 1024;
+
+pub const EXITS: u16 = 256;
+
+pub const STEPS: u16 = 4096;
 
 // Names of values are numbers, and a run keeps the value of a name at its number.
 pub trait Name {

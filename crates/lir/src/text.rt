@@ -33,6 +33,7 @@ impl fmt::Display for Part {
             Part::Guard => "guard",
             Part::Forward => "forward",
             Part::Cse => "CSE",
+            Part::Other(_) => "unknown",
         })
     }
 }

@@ -3,7 +3,7 @@ ghost use Rattle.std.specs.Prelude.{◌≡◌};
 ghost use Rattle.lir.specs.declared.instruction.Instruction.TheVariants.{Value as value, Store as store, Guard as guard};
 ghost use Rattle.raw_calls.specs.Calls.{meant, value_call, store_call, guard_call};
 ghost use Rattle.lir.specs.declared.fault.Part.{Part};
-ghost use Rattle.protocol.specs.Meanings.{instruct, end, answered, handled, settled, Fitting, refusal, foot_refusal, Order, Answer};
+ghost use Rattle.protocol.specs.Meanings.{instruct, end, answered, handled, settled, Fitting, refusal, foot_refusal};
 ghost use Rattle.protocol.specs.Writers.{Writes, Lawful, own_fault, judgement, Judged, malformed, ByNumbers};
 
 use codes::kind::Kind;
@@ -44,7 +44,8 @@ pub trait Writer {
 
     // Takes an instruction, and answers the handle of the value that it gives, if it gives one.
     fn take(&mut self, i: Instruction<Handle>) -> Result<Option<Handle>, Fault>
-        ensures { writes.steps self.old (instruct i) (answered result) self.new };
+        ensures exact { writes.steps self.old (instruct i) (answered result) self.new }
+        ensures fits { Fitting (instruct i) (answered result) };
 
     fn end(&mut self) -> Result<(), Fault>
         ensures { writes.steps self.old end (settled result) self.new };
@@ -165,8 +166,6 @@ pub trait Writer {
     }
 
     ghost named: { PART ≡ writes.part };
-
-    ghost fitting: { (w w2 : Self) (o : Order) (a : Answer) → writes.steps w o a w2 → Fitting o a };
 
     ghost lawful: { Lawful Self.Kind.Kind.arithmetic writes };
 }

@@ -1,4 +1,5 @@
 // The words of a line, read one after another. Each reader says what it expected where it fails.
+ghost use Rattle.std.specs.Prelude.{◌≤◌, IfOk};
 ghost use Rattle.script.specs.Words.{Ends, NextWord, Reads};
 
 use crate::error::{Error, Expected};
@@ -32,6 +33,17 @@ impl<'a> Words<'a> {
     {
         let word = self.word(expected)?;
         word.parse::<T>().map_err(|_| Error::Unread(expected))
+    }
+
+    // A number up to `most`.
+    pub fn number(&mut self, most: u16, expected: Expected) -> Result<u16, Error>
+        ensures { IfOk result (λ n. n ≤ most) }
+    {
+        let number = self.read::<u16>(expected)?;
+        if number > most {
+            return Err(Error::Unread(expected));
+        }
+        Ok(number)
     }
 
     // Every word that is left, as handles. The heap is lent here alone, since whoever reads none of these needs none.

@@ -1,8 +1,7 @@
 // The buffer as a writer.
 ghost use Rattle.std.specs.Prelude.{◌≡◌, min, IfOk, refl};
 ghost use Rattle.lir.specs.declared.fault.Part.TheVariants.{Buffer as buffer};
-ghost use Rattle.writers.specs.Footing.{foot_fitting};
-ghost use Rattle.writers.specs.Buffers.{buffer_foot, buffer_sound, buffers, viewed, empty};
+ghost use Rattle.writers.specs.Buffers.{buffers, viewed, empty};
 ghost use Rattle.writers.specs.Buffering.{buffer_lawful};
 
 use super::Buffer;
@@ -45,8 +44,6 @@ impl<K: Kind> Writer for Buffer<K> {
     ghost writes = { buffers K.Kind.arithmetic };
 
     ghost named = { refl };
-
-    ghost fitting = { foot_fitting (buffer_foot K.Kind.arithmetic) buffer_sound viewed };
 
     ghost lawful = { buffer_lawful K.Kind.arithmetic };
 

@@ -1,8 +1,7 @@
 // The evaluator as a writer.
 ghost use Rattle.std.specs.Prelude.{◌≡◌, IfOk, refl};
 ghost use Rattle.lir.specs.declared.fault.Part.TheVariants.{Evaluator as evaluator};
-ghost use Rattle.writers.specs.Footing.{foot_fitting};
-ghost use Rattle.writers.specs.Evaluators.{eval_foot, eval_sound, evaluates, viewed, fresh};
+ghost use Rattle.writers.specs.Evaluators.{evaluates, viewed, fresh};
 ghost use Rattle.writers.specs.Evaluating.{eval_lawful};
 
 use super::Evaluator;
@@ -51,8 +50,6 @@ impl<K: Kind> Writer for Evaluator<K> {
     ghost writes = { evaluates K.Kind.arithmetic };
 
     ghost named = { refl };
-
-    ghost fitting = { foot_fitting (eval_foot K.Kind.arithmetic) eval_sound viewed };
 
     ghost lawful = { eval_lawful K.Kind.arithmetic };
 

@@ -1,6 +1,8 @@
 // What a machine does at each instruction.
 ghost use Rattle.std.specs.Prelude.{◌≡◌, ◌+◌, ◌<◌, ◌≤◌, [], IfOk, vec_len};
 ghost use Rattle.lir.specs.Instructions.{gives};
+ghost use Rattle.lir.specs.declared.instruction.Instruction.TheVariants.{Guard as guard};
+ghost use Rattle.writers.specs.declared.machine.Outcome.TheVariants.{Going};
 ghost use Rattle.lir.specs.Standings.{going, value_of, value_at, effect, finished};
 ghost use Rattle.lir.specs.Limits.{index_of};
 ghost use Rattle.writers.specs.Machines.{stands};
@@ -11,7 +13,7 @@ use codes::cells::Cells;
 use codes::kind::Kind;
 use lir::apply::{apply, leaves};
 use lir::bounds::Handle;
-use lir::instruction::{Instruction, Store, Value};
+use lir::instruction::{Guard, Instruction, Store, Value};
 use lir::names::HANDLES;
 use std::alloc::{AllocError, Global};
 use std::marker::PhantomData;
@@ -59,12 +61,25 @@ impl<K: Kind> Machine<K> {
         }
     }
 
+    // A function of its own, since a run of pressures takes a third longer where `step` holds this.
+    fn leave_or_stay(&mut self, g: Guard<Handle>)
+        requires { self.old.outcome ≡ Going }
+        ensures stands { stands self.new ≡ effect index_of K.Kind.arithmetic (guard g) (stands self.old) }
+        ensures kept { self.new.values.items ≡ self.old.values.items }
+    {
+        if leaves::<K>(g.test, self.value_at(g.on)) {
+            let lives = g.lives.map(|h| self.value_at(h));
+            self.outcome = Outcome::Gone(g.exit, lives);
+        }
+    }
+
     // An instruction changes only a run that is going. Each arm needs what its own variant holds, so it is a match and no
-    // table; `grows` is what a call does to the count, which no one state of a machine could say.
+    // table; `grows` and `kept` are what a call does to the values, which no one state of a machine could say.
     pub(crate) fn step(&mut self, i: Instruction<Handle>)
         requires { vec_len self.old.values < 1024 }
         ensures stands { stands self.new ≡ effect index_of K.Kind.arithmetic i (stands self.old) }
         ensures grows { vec_len self.new.values ≤ vec_len self.old.values + gives i }
+        ensures kept { gives i ≡ 0 → self.new.values.items ≡ self.old.values.items }
     {
         let Outcome::Going = self.outcome else {
             return;
@@ -83,12 +98,7 @@ impl<K: Kind> Machine<K> {
                 let k = Cell::low(self.value_at(b));
                 self.cells.set(k, code);
             }
-            Instruction::Guard(g) => {
-                if leaves::<K>(g.test, self.value_at(g.on)) {
-                    let lives = g.lives.map(|h| self.value_at(h));
-                    self.outcome = Outcome::Gone(g.exit, lives);
-                }
-            }
+            Instruction::Guard(g) => self.leave_or_stay(g),
         }
     }
 
