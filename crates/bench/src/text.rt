@@ -25,7 +25,7 @@ impl fmt::Display for Report {
         if self.changes.is_empty() {
             return write!(f, "; no cell changed");
         }
-        write!(f, "; ")?;
+        f.write_str("; ")?;
         f.write_joined(self.changes.iter(), ", ")
     }
 }

@@ -1,14 +1,14 @@
 // Names of values, and handles, by which calls on a writer name them.
 ghost use Rattle.std.specs.Prelude.{◌≡◌, ℕ};
 
-use crate::bounds::Handle;
+use crate::bounds::{Handle, LAST_EXIT, LAST_STEP};
 
-// How many there are of each.
+// How many handles, exits and steps there are.
 pub const HANDLES: u16 = 1024;
 
-pub const EXITS: u16 = 256;
+pub const EXITS: u16 = LAST_EXIT + 1;
 
-pub const STEPS: u16 = 4096;
+pub const STEPS: u16 = LAST_STEP + 1;
 
 // Names of values are numbers, and a run keeps the value of a name at its number.
 pub trait Name {

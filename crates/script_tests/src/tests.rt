@@ -2,6 +2,7 @@
 use assembly::kinds::KindName;
 use script::error::{Error, Expected};
 use script::session::Session;
+use script::words::Words;
 use std::alloc::Global;
 use std::process::Abort;
 
@@ -38,6 +39,16 @@ fn numbers_are_checked(rt: HostRuntime) {
     unread(&rt, heap, "add 0 1024", Expected::Handle);
     unread(&rt, heap, "xt 0 0 1 x", Expected::Handle);
     unread(&rt, heap, "value 256 0 0 0 0", Expected::Op);
+}
+
+#[test]
+fn a_number_ends_at_its_most(rt: HostRuntime) {
+    let mut words = Words::new("7 8 x");
+    let beyond = Err(Error::Unread(Expected::Op));
+    assert_eq!(rt; words.number(7, Expected::Op), Ok(7));
+    assert_eq!(rt; words.number(7, Expected::Op), beyond);
+    assert_eq!(rt; words.number(7, Expected::Op), beyond);
+    assert_eq!(rt; words.number(7, Expected::Op), beyond);
 }
 
 #[test]
